@@ -56,11 +56,13 @@ needs_valgrind() {
     fi
 }
 
-# judge WHAT FIGURE MOST: with --check, prints of a figure that is over the most that it may be, or no number, and sets `failed`
+# judge WHAT FIGURE MOST: with --check, prints of a figure that is over the most that it may be, or
+# no number, and sets `failed`
 judge() {
     : "${2:?not counted}"
     judged=$((judged + 1))
-    if [ "$check" ] && ! awk -v figure="$2" -v most="$3" 'BEGIN { exit !(figure ~ /^-?[0-9.]+$/ && figure <= most) }'; then
+    if [ "$check" ] && ! awk -v figure="$2" -v most="$3" \
+        'BEGIN { exit !(figure ~ /^-?[0-9.]+$/ && figure <= most) }'; then
         echo "WRONG: $1: $2 is over $3"
         failed=yes
     fi

@@ -1,8 +1,9 @@
 #!/usr/bin/env python3
-"""Sixteen live clients add up their numbers in four stages: module m has m + 1 at first, and the sum of all in the end.
+"""Sixteen live clients add up their numbers in four stages: module m has m + 1 at first,
+and the sum of all in the end.
 
-In each stage a client's number goes to the module whose own number differs in one bit, and what came from there is added to it. Start the
-host first, at the top of a clone, and then the clients:
+In each stage a client's number goes to the module whose own number differs in one bit, and what
+came from there is added to it. Start the host first, at the top of a clone, and then the clients:
 
     mkfifo {0..15}.in {0..15}.out
     ./exchange host 16x5x2 {0..15} &
@@ -21,7 +22,8 @@ def address(block, word):
 
 
 def add_up(module):
-    """The session of the client of a module. Block 0 has its number, and the word 1 behind it; block S + 1 is for what comes in stage S."""
+    """The session of the client of a module. Block 0 has its number, and the word 1 behind it;
+    block S + 1 is for what comes in stage S."""
     with open(f"{module}.in", "w") as said, open(f"{module}.out") as told:
 
         def ask(line):
@@ -42,7 +44,10 @@ def add_up(module):
 
 
 if not all(Path(f"{module}.{way}").is_fifo() for module in range(16) for way in ("in", "out")):
-    sys.exit("all-reduce.py: the pipes 0.in to 15.out aren't here: its first lines say how to make them and start the host")
+    sys.exit(
+        "all-reduce.py: the pipes 0.in to 15.out aren't here: its first lines say how to make them "
+        "and start the host"
+    )
 with ThreadPoolExecutor(16) as clients:
     for module, total in enumerate(clients.map(add_up, range(16))):
         print(f"module {module} has {total}")

@@ -1,8 +1,8 @@
 #!/usr/bin/env python3
 """Checks the sums of a record, and prints its entries: python3 examples/check_record.py RECORD
 
-It prints a line for each entry: its number, its session, its call and its reply; then how the record ends. It needs no kit, and no rack: whether
-the replies are right, `exchange replay` says.
+It prints a line for each entry: its number, its session, its call and its reply; then how the
+record ends. It needs no kit, and no rack: whether the replies are right, `exchange replay` says.
 """
 
 import re
@@ -32,10 +32,17 @@ def check(text):
             break
         at = found.end()
         if lines == b"end %d\n" % number:
-            print("the record has ended" if at == len(text) else f"something follows the end: {text[at:]!r}")
+            print(
+                "the record has ended"
+                if at == len(text)
+                else f"something follows the end: {text[at:]!r}"
+            )
             return at == len(text)
         session, _, call = lines.decode(errors="replace").partition(" ")
-        print(f"entry {number}, session {session}: {' / '.join(call.splitlines()[:-1])}: {''.join(call.splitlines()[-1:])}")
+        print(
+            f"entry {number}, session {session}: {' / '.join(call.splitlines()[:-1])}: "
+            f"{''.join(call.splitlines()[-1:])}"
+        )
         number += 1
     line = text.count(b"\n", 0, at) + 1
     if found or not re.fullmatch(rb"[\n -~]*", text[at:]):

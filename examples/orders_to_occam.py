@@ -1,8 +1,10 @@
 #!/usr/bin/env python3
-"""Makes occam tables of the orders of one module: exchange orders BATCH --module M | orders_to_occam.py
+"""Makes occam tables of the orders of one module:
+exchange orders BATCH --module M | orders_to_occam.py
 
-examples/board/module.occ reads them. For each setting there are two entries, that of link 0 and that of link 3, each of two bytes. A table of
-no elements isn't written, since we aren't sure that each compiler takes one: it has an element that the numbers before it don't count.
+examples/board/module.occ reads them. For each setting there are two entries, that of link 0 and
+that of link 3, each of two bytes. A table of no elements isn't written, since we aren't sure that
+each compiler takes one: it has an element that the numbers before it don't count.
 """
 
 import sys
@@ -22,8 +24,12 @@ def main():
     print(f"VAL INT n.copies IS {len(copies)}:")
     print(f"VAL []BYTE copies IS [{', '.join(f'{block} (BYTE)' for block in copies or [0])}]:")
     print(f"VAL INT n.settings IS {len(settings)}:")
-    entries = [", ".join(f"[{NAMES[act]}, {block} (BYTE)]" for act, block in row) for row in rows(settings)]
-    print("VAL [][2][2]BYTE orders IS\n  [" + ",\n   ".join(f"[{entry}]" for entry in entries) + "]:")
+    entries = [
+        ", ".join(f"[{NAMES[act]}, {block} (BYTE)]" for act, block in row) for row in rows(settings)
+    ]
+    print(
+        "VAL [][2][2]BYTE orders IS\n  [" + ",\n   ".join(f"[{entry}]" for entry in entries) + "]:"
+    )
 
 
 if __name__ == "__main__":

@@ -1,7 +1,9 @@
 #!/usr/bin/env python3
-"""Makes C tables of the bytes of one switch: exchange switch BATCH [--schedule FILE] [--wiring FILE] | switch_to_c.py > switch.h
+"""Makes C tables of the bytes of one switch: exchange switch BATCH [--schedule FILE] [--wiring
+FILE] | switch_to_c.py > switch.h
 
-examples/board/relay.c reads them: the bytes of all settings, and where those of each end. docs/BOARD.md says more.
+examples/board/relay.c reads them: the bytes of all settings,
+and where those of each end. docs/BOARD.md says more.
 """
 
 import sys

@@ -1,7 +1,9 @@
 #!/usr/bin/env python3
-"""Makes occam tables of the bytes of one switch: exchange switch BATCH [--schedule FILE] [--wiring FILE] | switch_to_occam.py
+"""Makes occam tables of the bytes of one switch:
+exchange switch BATCH [--schedule FILE] [--wiring FILE] | switch_to_occam.py
 
-`relay.by.tables` of examples/board/relay.occ reads them: the bytes of all settings, and where those of each end. docs/BOARD.md says more.
+`relay.by.tables` of examples/board/relay.occ reads them: the bytes of all settings, and where those
+of each end. docs/BOARD.md says more.
 """
 
 import sys

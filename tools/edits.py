@@ -14,7 +14,8 @@ TOP = os.path.dirname(os.path.dirname(os.path.abspath(__file__)))
 
 
 def faults(edit):
-    """What keeps an edit from being made. Its lines are `file: NAME`, `old: TEXT` and `new: TEXT`."""
+    """What keeps an edit from being made. Its lines are `file: NAME`,
+    `old: TEXT` and `new: TEXT`."""
     crate, before, after, old = edit.partition("/must-fail/")[0], "", "", None
     with open(edit, encoding="utf-8") as lines:
         for line in lines.read().splitlines():
@@ -37,9 +38,15 @@ def faults(edit):
 
 def main():
     top = sys.argv[1] if sys.argv[1:] else TOP
-    edits = sorted(it for it in glob.glob(f"{top}/crates/*/must-fail/**", recursive=True) if os.path.isfile(it))
+    edits = sorted(
+        it for it in glob.glob(f"{top}/crates/*/must-fail/**", recursive=True) if os.path.isfile(it)
+    )
     wrong = [f"{edit}: {it}" for edit in edits if not edit.endswith(".md") for it in faults(edit)]
-    wrong += [f"{edit}: its name doesn't end in .edit" for edit in edits if not edit.endswith((".edit", ".md"))]
+    wrong += [
+        f"{edit}: its name doesn't end in .edit"
+        for edit in edits
+        if not edit.endswith((".edit", ".md"))
+    ]
     for it in wrong:
         print(f"edits: WRONG: {it}")
     print(f"edits: {len(edits)} edits, {len(wrong)} wrong")

@@ -1,8 +1,10 @@
 #!/usr/bin/env python3
-"""Looks whether a tool tried as much as tools/least.txt says, and found nothing wrong: least.py TOOL SAID
+"""Looks whether a tool tried as much as tools/least.txt says, and found nothing wrong:
+least.py TOOL SAID
 
-SAID is a file of what the tool printed. Where a tool says that a program of this machine is missing,
-numbers with a `?` behind them don't count. One that says WRONG is wrong, whatever its status.
+SAID is a file of what the tool printed. Where a tool says that a program of this machine is
+missing, numbers with a `?` behind them don't count. One that says WRONG is wrong, whatever its
+status.
 """
 
 import os
@@ -16,7 +18,11 @@ def lines_of(tool, lacks=False):
     """Of each line that is about a tool the least number, and the words."""
     with open(LEAST, encoding="utf-8") as file:
         parts = [line.split(maxsplit=2) for line in file if not line.startswith("#")]
-    return [(int(least.rstrip("?")), words.strip()) for name, least, words in parts if name == tool and not (lacks and least.endswith("?"))]
+    return [
+        (int(least.rstrip("?")), words.strip())
+        for name, least, words in parts
+        if name == tool and not (lacks and least.endswith("?"))
+    ]
 
 
 def most_said(words, said):
@@ -30,7 +36,11 @@ def most_said(words, said):
 def faults(tool, said):
     """What is wrong with what a tool printed."""
     wanted = lines_of(tool, " is missing, so " in said)
-    yield from (f"fewer than {least} of: {words}" for least, words in wanted if most_said(words, said) < least)
+    yield from (
+        f"fewer than {least} of: {words}"
+        for least, words in wanted
+        if most_said(words, said) < least
+    )
     if not lines_of(tool):
         yield "no line of tools/least.txt is about it"
     if "WRONG" in said:

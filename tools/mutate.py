@@ -3,13 +3,16 @@
 
     tools/mutate.py [--jobs N] [--seconds N] [--list] [--only LINE,..] [FILE..] [-- COMMAND..]
 
-Each FILE is one of the repository in Python, C or for bash; without one all that JUDGES names are taken. One after the other, each of these in it is
-dropped or turned: what ends it (`exit`, `sys.exit`, `fail`, `raise`, `|| fail`, `must`), its status, the test of an `if`, a `trap`, a `signal`, a
-test of a file, and what waits, kills, locks or takes away. COMMAND, or else what JUDGES names, the quickest first, runs in the top folder of a copy
-of the repository, where what is built is a link to here. It has to pass before. It sees what is wrong where it fails, says WRONG, or takes twice as
-long as before, and half a minute. Each that it passes is printed, as is how many there were. The status is 0 where none passed, 1 where one did, and
-2 where COMMAND fails before, or not all is tried. With --list it prints all, and runs nothing. With --seconds no more are tried after so many. The
-test command doesn't call this tool.
+Each FILE is one of the repository in Python, C or for bash; without one all that JUDGES names are
+taken. One after the other, each of these in it is dropped or turned: what ends it (`exit`,
+`sys.exit`, `fail`, `raise`, `|| fail`, `must`), its status, the test of an `if`, a `trap`, a
+`signal`, a test of a file, and what waits, kills, locks or takes away. COMMAND, or else what JUDGES
+names, the quickest first, runs in the top folder of a copy of the repository, where what is built
+is a link to here. It has to pass before. It sees what is wrong where it fails, says WRONG, or takes
+twice as long as before, and half a minute. Each that it passes is printed, as is how many there
+were. The status is 0 where none passed, 1 where one did, and 2 where COMMAND fails before, or not
+all is tried. With --list it prints all, and runs nothing. With --seconds no more are tried after so
+many. The test command doesn't call this tool.
 """
 
 import argparse
@@ -50,19 +53,31 @@ JUDGES = {
 
 # What ends a program, and what is done for others to rely on.
 ENDS = r"(sys\.exit|exit|os\._exit|fail|die|\w+\.error)"
-DUTIES = r"(signal\.\w+|fcntl\.\w+|.*\.(kill|wait|terminate|flush|unlink|rmtree|close|join|shutdown|drop_\w+)|os\.(kill|close|unlink|killpg|setsid))"
+DUTIES = (
+    r"(signal\.\w+|fcntl\.\w+|"
+    r".*\.(kill|wait|terminate|flush|unlink|rmtree|close|join|shutdown|drop_\w+)|"
+    r"os\.(kill|close|unlink|killpg|setsid))"
+)
 
 
 def in_python(text):
-    """What can be made wrong in a text in Python: each its line, what is done, and the text then."""
+    """What can be made wrong in a text in Python: each its line, what is done,
+    and the text then."""
     starts = [0]
     for line in text.splitlines(keepends=True):
         starts.append(starts[-1] + len(line.encode()))
     code = text.encode()
 
     def put(node, new, how):
-        begin, end = starts[node.lineno - 1] + node.col_offset, starts[node.end_lineno - 1] + node.end_col_offset
-        return node.lineno, how, (code[:begin] + new(code[begin:end].decode()).encode() + code[end:]).decode()
+        begin, end = (
+            starts[node.lineno - 1] + node.col_offset,
+            starts[node.end_lineno - 1] + node.end_col_offset,
+        )
+        return (
+            node.lineno,
+            how,
+            (code[:begin] + new(code[begin:end].decode()).encode() + code[end:]).decode(),
+        )
 
     def name(call):
         return ast.unparse(call.func) if isinstance(call, ast.Call) else ""
@@ -76,12 +91,15 @@ def in_python(text):
                 yield put(node, lambda _: "__import__('sys').exit(0)", "status 0")
         elif isinstance(node, ast.Expr) and re.fullmatch(DUTIES, name(node.value)):
             yield put(node, lambda _: "pass", "dropped")
-        elif isinstance(node, (ast.If, ast.IfExp, ast.While)) and not isinstance(node.test, ast.Constant):
+        elif isinstance(node, (ast.If, ast.IfExp, ast.While)) and not isinstance(
+            node.test, ast.Constant
+        ):
             yield put(node.test, lambda was: f"(not ({was}))", "turned")
 
 
 def by_lines(text, rules):
-    """What can be made wrong in a text line by line, by rules: a pattern, and what takes its place."""
+    """What can be made wrong in a text line by line, by rules: a pattern,
+    and what takes its place."""
     lines = text.splitlines(keepends=True)
     for number, line in enumerate(lines):
         if re.match(r"\s*(#|//|/\*|\*)", line):
@@ -100,7 +118,11 @@ BASH = [
     (r"(?<!\S)(\[\[? .*? \]?\])", r"! \1", "turned"),
 ]
 C = [
-    (r"\b(?:exit|must|signal|sigaction|kill|wait|waitpid|unlink|fflush)\([^;{]*\);", ";", "dropped"),
+    (
+        r"\b(?:exit|must|signal|sigaction|kill|wait|waitpid|unlink|fflush)\([^;{]*\);",
+        ";",
+        "dropped",
+    ),
     (r"\bif \((.*)\)(?= *[{\w]|$)", r"if (!(\1))", "turned"),
     (r"\breturn (?:1|EXIT_FAILURE);", "return 0;", "status 0"),
     (r"\bexit\((?!0)[^;]*\);", "exit(0);", "status 0"),
@@ -120,13 +142,21 @@ def mutations(path):
 
 def copy_to(folder):
     """Copies the repository's files. What is built is a link."""
-    listed = subprocess.run(["git", "ls-files", "-co", "--exclude-standard"], cwd=TOP, stdout=subprocess.PIPE, check=True).stdout.decode()
+    listed = subprocess.run(
+        ["git", "ls-files", "-co", "--exclude-standard"],
+        cwd=TOP,
+        stdout=subprocess.PIPE,
+        check=True,
+    ).stdout.decode()
     for name in listed.splitlines():
         if os.path.exists(f"{TOP}/{name}"):
             os.makedirs(os.path.dirname(f"{folder}/{name}"), exist_ok=True)
             shutil.copy2(f"{TOP}/{name}", f"{folder}/{name}", follow_symlinks=False)
     built = subprocess.run(
-        ["git", "ls-files", "-oi", "--exclude-standard", "--directory"], cwd=TOP, stdout=subprocess.PIPE, check=True
+        ["git", "ls-files", "-oi", "--exclude-standard", "--directory"],
+        cwd=TOP,
+        stdout=subprocess.PIPE,
+        check=True,
     ).stdout.decode()
     for name in built.splitlines():
         os.makedirs(os.path.dirname(f"{folder}/{name.rstrip('/')}"), exist_ok=True)
@@ -146,8 +176,14 @@ def passes(command, folder, limit):
     """Whether a command passes within so many seconds, and says nowhere that something is wrong."""
     began, said = time.monotonic(), b""
     with tempfile.TemporaryDirectory(prefix="mutate-") as room:
-        pipes = {"stdin": subprocess.DEVNULL, "stdout": subprocess.PIPE, "stderr": subprocess.STDOUT}
-        run = subprocess.Popen(command, cwd=folder, env={**os.environ, "TMPDIR": room}, start_new_session=True, **pipes)
+        pipes = {
+            "stdin": subprocess.DEVNULL,
+            "stdout": subprocess.PIPE,
+            "stderr": subprocess.STDOUT,
+        }
+        run = subprocess.Popen(
+            command, cwd=folder, env={**os.environ, "TMPDIR": room}, start_new_session=True, **pipes
+        )
         try:
             while b"WRONG" not in said and time.monotonic() < began + limit:
                 # Who was started by it may hold the pipe for longer.
@@ -176,11 +212,19 @@ def passes(command, folder, limit):
 
 def judge_of(name):
     """The command that judges a file."""
-    return next((["bash", "-c", command] for pattern, command in JUDGES.items() if fnmatch.fnmatch(name, pattern)), None)
+    return next(
+        (
+            ["bash", "-c", command]
+            for pattern, command in JUDGES.items()
+            if fnmatch.fnmatch(name, pattern)
+        ),
+        None,
+    )
 
 
 class Trials:
-    """A copy of the repository in which one file after the other is wrong. No more are tried behind the moment `until`."""
+    """A copy of the repository in which one file after the other is wrong.
+    No more are tried behind the moment `until`."""
 
     def __init__(self, command, until):
         self.command, self.until, self.limits = command, until, {}
@@ -191,11 +235,14 @@ class Trials:
         return passes(self.command or judge_of(name), self.room.name, limit)
 
     def limit_of(self, name):
-        """The seconds that the judge of a file has; none where it fails before anything is wrong."""
+        """The seconds that the judge of a file has; none
+        where it fails before anything is wrong."""
         judge = str(self.command or judge_of(name))
         if judge not in self.limits:
             began = time.monotonic()
-            self.limits[judge] = 2 * (time.monotonic() - began) + 30 if self.run(name, 3600) else None
+            self.limits[judge] = (
+                2 * (time.monotonic() - began) + 30 if self.run(name, 3600) else None
+            )
         return self.limits[judge]
 
     def try_one(self, name, line, how, text):
@@ -209,7 +256,13 @@ class Trials:
         commit(self.room.name)
         lives = self.run(name, limit)
         put(f"{self.room.name}/{name}", right)
-        print(f"{name}:{line}: {how}: {'passes' if lives else 'seen'}: {right.splitlines()[line - 1].strip()}", flush=True)
+        print(
+            (
+                f"{name}:{line}: {how}: {'passes' if lives else 'seen'}: "
+                f"{right.splitlines()[line - 1].strip()}"
+            ),
+            flush=True,
+        )
         return lives
 
 
@@ -228,8 +281,16 @@ def main():
     words.add_argument("files", nargs="*")
     given, command = words.parse_args(sys.argv[1:at]), sys.argv[at + 1 :]
     os.chdir(TOP)
-    names = [os.path.relpath(name) for name in given.files or [name for it in JUDGES for name in glob.glob(it)]]
-    found = [(name, *it) for name in dict.fromkeys(names) for it in mutations(name) if not given.only or str(it[0]) in given.only.split(",")]
+    names = [
+        os.path.relpath(name)
+        for name in given.files or [name for it in JUDGES for name in glob.glob(it)]
+    ]
+    found = [
+        (name, *it)
+        for name in dict.fromkeys(names)
+        for it in mutations(name)
+        if not given.only or str(it[0]) in given.only.split(",")
+    ]
     if given.list:
         for name, line, how, _ in found:
             print(f"{name}:{line}: {how}")

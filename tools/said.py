@@ -17,7 +17,9 @@ TOP = os.path.dirname(os.path.dirname(os.path.abspath(__file__)))
 def listed():
     """What crates.txt says of each crate, by its name."""
     with open(f"{TOP}/crates.txt", encoding="utf-8") as file:
-        heads = [re.split(r"[\s:]", line.partition(":")[0]) for line in file if re.match(r"\w", line)]
+        heads = [
+            re.split(r"[\s:]", line.partition(":")[0]) for line in file if re.match(r"\w", line)
+        ]
     return {name: dict(it.split("=") for it in words if "=" in it) for name, *words in heads}
 
 
@@ -41,9 +43,17 @@ def faults(lines, crates):
             left.pop(crate if not of_tests else None, None)
             found = dict(it.partition("=")[::2] for it in line.split())
             if of_tests:
-                word, said, wanted = "tests_may", bounds(found.get("main", "")), bounds(crates[crate].get("tests_may", ""))
+                word, said, wanted = (
+                    "tests_may",
+                    bounds(found.get("main", "")),
+                    bounds(crates[crate].get("tests_may", "")),
+                )
             else:
-                word, said, wanted = "may_wait", found.get("may-wait", "0"), crates[crate].get("may_wait", "0")
+                word, said, wanted = (
+                    "may_wait",
+                    found.get("may-wait", "0"),
+                    crates[crate].get("may_wait", "0"),
+                )
             if said != wanted:
                 yield f"{crate}: {word} is {wanted} in crates.txt, and {said} by rt ci"
     yield from (f"{crate}: nothing is said of it" for crate in left)

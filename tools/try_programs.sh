@@ -1,9 +1,10 @@
 #!/usr/bin/env bash
-# Tries the built programs: the start script, the rows of each command, what the documents show, live
-# clients, switches that stand somewhere else, racks of processes, the calls from C and Python, what
-# is installed, the instructions that planning, runs and sessions take, and hostile use. What isn't
-# built yet is proved and built first. It also looks for names with several meanings, for wrong
-# bodies that can't be made any more, and for libraries that open files past every handle.
+# Tries the built programs: the start script, the rows of each command, what the documents show,
+# live clients, switches that stand somewhere else, racks of processes, the calls from C and Python,
+# what is installed, the instructions that planning, runs and sessions take, and hostile use. What
+# isn't built yet is proved and built first. It also looks for names with several meanings, for
+# lines that are too wide, for wrong bodies that can't be made any more, and for libraries that open
+# files past every handle.
 #
 # After a tool that fails the others are tried all the same. One fails too if it tries less than
 # least.txt says. The status is 1 where any did, and the last lines say once more what was wrong.
@@ -26,8 +27,8 @@ ends_well() {
     [ "$status" = 0 ]
 }
 
-# Tries one of them, and prints how many seconds it took. With `live` before it others work beside it, which come late on a busy machine: then
-# it is tried once more where it fails.
+# Tries one of them, and prints how many seconds it took. With `live` before it others work beside
+# it, which come late on a busy machine: then it is tried once more where it fails.
 try() {
     local began=$SECONDS times=1
     [ "$1" != live ] || { times=2 && shift; }
@@ -58,6 +59,7 @@ try tools/c/run.sh
 try tools/python/run.py
 try tools/release.sh --check
 try tools/texts/names.py
+try tools/texts/widths.py
 try tools/texts/promises.py
 try tools/texts/run.py
 try live tools/hosts/run.sh
@@ -71,7 +73,8 @@ try bench/run/overlap.sh --check
 try bench/session/lines.sh --check
 try tools/hostile/run.sh
 # A tool of least.txt that wasn't tried is wrong too.
-wrong+=($(sed '/^#/d; s/ .*//' tools/least.txt | uniq | grep -vxF -f <(printf '%s\n' "${tried[@]}") || true))
+wrong+=($(sed '/^#/d; s/ .*//' tools/least.txt | uniq |
+    grep -vxF -f <(printf '%s\n' "${tried[@]}") || true))
 # What was wrong stands at the end once more.
 cat "$faults"
 if [ ${#wrong[@]} != 0 ]; then

@@ -1,5 +1,6 @@
 #!/usr/bin/env bash
-# Counts the instructions of `direct` for 1024 and for 4096 moves, and how many settings its directions need beside those of pushes alone.
+# Counts the instructions of `direct` for 1024 and for 4096 moves, and how many settings its
+# directions need beside those of pushes alone.
 #
 #   scrambled   modules of both ends by a linear congruential generator
 #   gather      to module 0, from each other module in turn
@@ -16,7 +17,8 @@ program=$here/../../crates/exchange/out/exchange
 work=$(mktemp -d)
 trap 'rm -rf "$work"' EXIT
 
-# COUNT FROM TO: moves from a module to a module, both by expressions of the move's number t and of x, which is scrambled
+# COUNT FROM TO: moves from a module to a module,
+# both by expressions of the move's number t and of x, which is scrambled
 moves() {
     local x=1 t
     echo "moves $1"
@@ -33,10 +35,15 @@ measure() {
         moves $count "$2" "$3" >"$work/moves"
         counts[$count]=$(instructions "$program" direct "$work/moves")
     done
-    directed=$("$program" direct "$work/moves" | "$program" plan --quiet - | sed -n '1s/settings //p')
-    pushed=$(sed 's/^moves/batch/; s/^move/push/' "$work/moves" | "$program" plan --quiet - | sed -n '1s/settings //p')
-    awk -v name="$1" -v a="${counts[1024]}" -v b="${counts[4096]}" -v d="$directed" -v p="$pushed" 'BEGIN {
-        printf "%-10s %.2f million instructions for 1024 moves, %.2f for 4096, growth %.2f; settings %d, of pushes alone %d\n", name, a / 1e6, b / 1e6, b / a, d, p
+    directed=$("$program" direct "$work/moves" | "$program" plan --quiet - |
+        sed -n '1s/settings //p')
+    pushed=$(sed 's/^moves/batch/; s/^move/push/' "$work/moves" | "$program" plan --quiet - |
+        sed -n '1s/settings //p')
+    awk -v name="$1" -v a="${counts[1024]}" -v b="${counts[4096]}" \
+        -v d="$directed" -v p="$pushed" 'BEGIN {
+        printf "%-10s %.2f million instructions for 1024 moves, %.2f for 4096, growth %.2f; ",
+            name, a / 1e6, b / 1e6, b / a
+        printf "settings %d, of pushes alone %d\n", d, p
     }'
 }
 

@@ -1,8 +1,10 @@
-//! How often a shortest schedule of a small batch changes the switch at least, since all are tried: fewest_changes BATCH
+//! How often a shortest schedule of a small batch changes the switch at least,
+//! since all are tried: fewest_changes BATCH
 //!
-//! It stands on no law of the program. A run is the settings between two changes, so it joins the same pairs throughout. Runs may stand in
-//! any order: what counts is how long each is, and which pairs it joins. So all lengths are tried that add up to the settings,
-//! and for each pair all sets of runs that are as long as it has transfers.
+//! It stands on no law of the program. A run is the settings between two changes, so it joins the
+//! same pairs throughout. Runs may stand in any order: what counts is how long each is, and which
+//! pairs it joins. So all lengths are tried that add up to the settings, and for each pair all sets
+//! of runs that are as long as it has transfers.
 
 use std::{env, fs};
 
@@ -41,7 +43,9 @@ impl Taken {
 
 /// Whether all pairs can be joined: `sets` has the sets of runs of each length.
 fn can_join(pairs: &mut Vec<&Pair>, sets: &[Vec<u32>], taken: Taken) -> bool {
-    let ways = |pair: &Pair| sets[pair.transfers].iter().filter(|&&runs| taken.may_take(pair, runs)).count();
+    let ways = |pair: &Pair| {
+        sets[pair.transfers].iter().filter(|&&runs| taken.may_take(pair, runs)).count()
+    };
     let Some(hardest) = (0..pairs.len()).min_by_key(|&at| ways(pairs[at])) else {
         return true;
     };
@@ -63,18 +67,32 @@ fn have_schedule(pairs: &[Pair], lengths: &[usize]) -> bool {
     let most = most_of(pairs);
     let mut sets = vec![vec![]; most + 1];
     for runs in 1..1u32 << lengths.len() {
-        let length: usize = lengths.iter().enumerate().filter(|(run, _)| runs >> run & 1 == 1).map(|(_, length)| length).sum();
+        let length: usize = lengths
+            .iter()
+            .enumerate()
+            .filter(|(run, _)| runs >> run & 1 == 1)
+            .map(|(_, length)| length)
+            .sum();
         if length <= most {
             sets[length].push(runs);
         }
     }
-    let like_last = (1..lengths.len()).filter(|&run| lengths[run] == lengths[run - 1]).map(|run| 1 << run).sum();
+    let like_last = (1..lengths.len())
+        .filter(|&run| lengths[run] == lengths[run - 1])
+        .map(|run| 1 << run)
+        .sum();
     let taken = Taken { sends: [0; MODULES], receives: [0; MODULES], like_last };
     can_join(&mut pairs.iter().collect(), &sets, taken)
 }
 
 /// Whether some schedule has so many runs more, of so many settings, none longer than `most`.
-fn can_end(pairs: &[Pair], lengths: &mut Vec<usize>, runs: usize, settings: usize, most: usize) -> bool {
+fn can_end(
+    pairs: &[Pair],
+    lengths: &mut Vec<usize>,
+    runs: usize,
+    settings: usize,
+    most: usize,
+) -> bool {
     if runs == 0 {
         return settings == 0 && have_schedule(pairs, lengths);
     }
@@ -90,13 +108,21 @@ fn main() {
     let text = fs::read_to_string(env::args().nth(1).expect("a batch")).expect("a text");
     let mut counts = [[0; MODULES]; MODULES];
     for line in text.lines().skip(1) {
-        let words: Vec<usize> = line.split(' ').skip(1).map(|word| word.parse().expect("a number")).collect();
+        let words: Vec<usize> =
+            line.split(' ').skip(1).map(|word| word.parse().expect("a number")).collect();
         counts[words[0]][words[2]] += 1;
     }
-    let all = (0..MODULES * MODULES).map(|at| Pair { from: at / MODULES, to: at % MODULES, transfers: counts[at / MODULES][at % MODULES] });
+    let all = (0..MODULES * MODULES).map(|at| Pair {
+        from: at / MODULES,
+        to: at % MODULES,
+        transfers: counts[at / MODULES][at % MODULES],
+    });
     let pairs: Vec<Pair> = all.filter(|pair| pair.transfers > 0).collect();
-    let sent = |m: usize| pairs.iter().filter(|pair| pair.from == m).map(|pair| pair.transfers).sum::<usize>();
-    let received = |m: usize| pairs.iter().filter(|pair| pair.to == m).map(|pair| pair.transfers).sum();
+    let sent = |m: usize| {
+        pairs.iter().filter(|pair| pair.from == m).map(|pair| pair.transfers).sum::<usize>()
+    };
+    let received =
+        |m: usize| pairs.iter().filter(|pair| pair.to == m).map(|pair| pair.transfers).sum();
     let settings = (0..MODULES).map(|m| sent(m).max(received(m))).max().unwrap_or(0);
     let fewest = (0..).find(|&runs| can_end(&pairs, &mut vec![], runs, settings, most_of(&pairs)));
     println!("{}", fewest.expect("a schedule"));

@@ -1,6 +1,7 @@
-//! What `exchange plan FILE` does with one worker, in plain Rust that is written for speed: the same algorithm, the
-//! same text in and the same text out, byte for byte. Numbers are of 16 bits or fewer, members are permuted in place,
-//! all colours lie in one table whose room is taken once, and bytes are read and written by hand.
+//! What `exchange plan FILE` does with one worker, in plain Rust that is written for speed: the
+//! same algorithm, the same text in and the same text out, byte for byte. Numbers are of 16 bits or
+//! fewer, members are permuted in place, all colours lie in one table whose room is taken once, and
+//! bytes are read and written by hand.
 
 use std::io::Write;
 use std::process::ExitCode;
@@ -11,7 +12,8 @@ const LINKS: usize = 2 * MODULES;
 const MAX_TRANSFERS: usize = 4096;
 const NONE: u16 = u16::MAX;
 
-/// Of a transfer, the places of its two links in a row: first its initiator's link 0, then its responder's link 3.
+/// Of a transfer, the places of its two links in a row: first its initiator's link 0,
+/// then its responder's link 3.
 type Ends = [u8; 2];
 
 /// The transfers of a colour, each at its two links.
@@ -77,7 +79,8 @@ fn read(text: &[u8]) -> Result<Vec<Ends>, Fault> {
 
 // ---- halves
 
-/// The room that splitting takes: by places, the partners at both ends, the halves, and the members of the right half.
+/// The room that splitting takes: by places, the partners at both ends, the halves,
+/// and the members of the right half.
 struct Scratch {
     partners: [[u16; 2]; MAX_TRANSFERS],
     in_left: [Option<bool>; MAX_TRANSFERS],
@@ -173,7 +176,8 @@ fn take_back(table: &mut Vec<Row>, base: usize) -> Row {
 
 /// Gives a transfer a colour that is free at its first link, and those in the way another.
 fn insert(ends: &[Ends], rows: &mut [Row], t: u16) {
-    let free = |rows: &[Row], place: u8| rows.iter().position(|row| row[usize::from(place)] == NONE);
+    let free =
+        |rows: &[Row], place: u8| rows.iter().position(|row| row[usize::from(place)] == NONE);
     let links = ends[usize::from(t)];
     let mut colour = free(rows, links[0]).unwrap();
     let mut other = free(rows, links[1]).unwrap();

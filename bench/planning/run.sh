@@ -1,9 +1,10 @@
 #!/usr/bin/env bash
-# Counts the instructions that planning costs: of the whole program on one worker, beside plain Rust that does the
-# same and was written for speed (plain_planner.rs), for batches of several shapes, and how both grow from 1024
-# transfers to 4096. Plain Rust halves along partners, as the program did before it halved by pairs of links: so both
-# have to find as many settings, and `check` has to say of the program's that none are fewer. All is planned with --quiet. Without
-# it the batch is read again, to name two transfers that write one block: what that costs is counted of two batches.
+# Counts the instructions that planning costs: of the whole program on one worker, beside plain Rust
+# that does the same and was written for speed (plain_planner.rs), for batches of several shapes,
+# and how both grow from 1024 transfers to 4096. Plain Rust halves along partners, as the program
+# did before it halved by pairs of links: so both have to find as many settings, and `check` has to
+# say of the program's that none are fewer. All is planned with --quiet. Without it the batch is
+# read again, to name two transfers that write one block: what that costs is counted of two batches.
 #
 #   scrambled   modules of both ends by a linear congruential generator
 #   one_link    all from module 0 to module 1
@@ -15,8 +16,9 @@
 #   part        2731 transfers from module 0 to module 1
 #   wide        as scrambled, over 32 modules
 #
-# For each of them, and for those of steady_batches.py, it also counts `plan --steady` beside `plan`, and of the
-# steady plan the changes, the pairs that are cut or joined, and the bytes of `switch`, of both switches where there are two:
+# For each of them, and for those of steady_batches.py, it also counts `plan --steady` beside
+# `plan`, and of the steady plan the changes, the pairs that are cut or joined, and the bytes of
+# `switch`, of both switches where there are two:
 #
 #   all_to_all  each of 16 modules to each other, 17 blocks each, pair by pair
 #   in_rounds   the same, each pair once in each round
@@ -35,15 +37,17 @@
 #   seven_steps, seven_others
 #               what seven matchings of ten modules join, each for some settings
 #
-# With --check each ratio to plain Rust may be as large as `greatest` says, and what `switch` prints of one link may cost so
-# many times as much as of a quarter of the transfers as `greatest_growth` says. A steady plan may cost so many times as much
-# as a plan of the same batch as `greatest_steady` says, and four times the transfers no more than
-# four times as much. Its changes and bytes may be as many as `most_changes` and `most_bytes` say, where
-# these name the batch. Of 1000 small batches no more than 70 may have steady plans with more changes than the fewest, as all shortest
-# schedules show that were tried, and all together may have 2 in 100 more than the fewest. Pictures may leave open of no more than 85
-# whether a plan has the fewest, and of no more than 2 in 100 of those that have (told.py, fewest_changes.rs). No picture may say more than
-# is so. Else the status is 1. Where valgrind or rustc is missing, --check says so, and compares what needs neither: how many settings plans
-# have, and the changes and the bytes of steady ones.
+# With --check each ratio to plain Rust may be as large as `greatest` says, and what `switch` prints
+# of one link may cost so many times as much as of a quarter of the transfers as `greatest_growth`
+# says. A steady plan may cost so many times as much as a plan of the same batch as
+# `greatest_steady` says, and four times the transfers no more than four times as much. Its changes
+# and bytes may be as many as `most_changes` and `most_bytes` say, where these name the batch.
+# Of 1000 small batches no more than 60 may have steady plans with more changes than the fewest, as
+# all shortest schedules show that were tried, and all together may have 2 in 100 more than the
+# fewest. Pictures may leave open of no more than 85 whether a plan has the fewest, and of no more
+# than 2 in 100 of those that have (told.py, fewest_changes.rs). No picture may say more than is so.
+# Else the status is 1. Where valgrind or rustc is missing, --check says so, and compares what needs
+# neither: how many settings plans have, and the changes and the bytes of steady ones.
 #
 # It also counts the steps of plans, beside the most that are proved (steps.py).
 #
@@ -65,19 +69,26 @@ program=$top/crates/exchange/out/exchange
 work=$(mktemp -d)
 trap 'rm -rf "$work"' EXIT
 
-# About a twelfth more than was counted last, since other versions of both compilers count a little differently
+# About a twelfth more than was counted last, since other versions
+# of both compilers count a little differently
 declare -A greatest=(
-    [scrambled]=0.89 [scrambled-1024]=1.01 [one_link]=0.51 [one_link-1024]=0.65 [odd]=0.80 [star]=0.52 [two_by_two]=0.87 [part]=0.49 [wide]=0.89
+    [scrambled]=0.89 [scrambled-1024]=1.01 [one_link]=0.51 [one_link-1024]=0.65 [odd]=0.80
+    [star]=0.52 [two_by_two]=0.87 [part]=0.49 [wide]=0.89
     [three_by_three]=1.08 [four_by_two]=1.08 [sixteen_by_three]=1.07 [thirty_two_by_two]=1.09
 )
 greatest_growth=5
-# About an eighth more than was counted last, and no more than 3. A steady plan is the best of up to five, so it may cost more than a plan:
-# of transfers at random, and of modules that send each other one block
+# About an eighth more than was counted last, and no more than 3. A steady plan is the best of up to
+# five, so it may cost more than a plan: of transfers at random, and of modules that send each other
+# one block
 declare -A greatest_steady=(
-    [scrambled]=1.25 [scrambled-1024]=2.06 [one_link]=1.05 [one_link-1024]=1.07 [odd]=0.54 [star]=1.06 [two_by_two]=0.52 [part]=1.05
-    [wide]=1.79 [three_by_three]=0.35 [four_by_two]=0.43 [sixteen_by_three]=0.74 [thirty_two_by_two]=0.45 [all_to_all]=0.56
-    [in_rounds]=0.54 [halo]=0.85 [random_16]=1.24 [random_32]=1.80 [random_256]=1.85 [sixty_pairs]=1.12 [gather]=1.06 [butterfly]=0.66
-    [permutations]=0.72 [once_each]=1.06 [random_512]=2.06 [ten_modules]=0.81 [random_800]=2.13 [seven_steps]=0.83 [seven_others]=0.81
+    [scrambled]=1.25 [scrambled-1024]=2.06 [one_link]=1.05 [one_link-1024]=1.07 [odd]=0.54
+    [star]=1.06 [two_by_two]=0.52 [part]=1.05
+    [wide]=1.79 [three_by_three]=0.35 [four_by_two]=0.43 [sixteen_by_three]=0.74
+    [thirty_two_by_two]=0.45 [all_to_all]=0.56
+    [in_rounds]=0.54 [halo]=0.85 [random_16]=1.24 [random_32]=1.80 [random_256]=1.85
+    [sixty_pairs]=1.12 [gather]=1.06 [butterfly]=0.66
+    [permutations]=0.72 [once_each]=1.06 [random_512]=2.06 [ten_modules]=0.81 [random_800]=2.13
+    [seven_steps]=0.83 [seven_others]=0.81
 )
 greatest_steady_growth=4
 # A batch is read once more, and once more where two transfers write one block
@@ -85,13 +96,15 @@ greatest_told=1.5
 
 # As many as were seen last
 declare -A most_changes=(
-    [all_to_all]=15 [in_rounds]=15 [halo]=4 [random_16]=35 [random_32]=47 [random_256]=18 [sixty_pairs]=17 [gather]=15 [butterfly]=4
+    [all_to_all]=15 [in_rounds]=15 [halo]=4 [random_16]=35 [random_32]=47 [random_256]=18
+    [sixty_pairs]=17 [gather]=15 [butterfly]=4
     [permutations]=8 [once_each]=31 [random_512]=21 [ten_modules]=9 [random_800]=30
     [seven_steps]=7 [seven_others]=7
 )
 declare -A most_bytes=(
-    [all_to_all]=1648 [in_rounds]=1648 [halo]=341 [random_16]=2925 [random_32]=11462 [random_256]=1012 [sixty_pairs]=932 [gather]=1048
-    [butterfly]=593 [permutations]=2570 [once_each]=9856 [random_512]=4072 [ten_modules]=574
+    [all_to_all]=1648 [in_rounds]=1648 [halo]=335 [random_16]=3099 [random_32]=11998
+    [random_256]=1033 [sixty_pairs]=950 [gather]=1048
+    [butterfly]=593 [permutations]=2580 [once_each]=9856 [random_512]=4110 [ten_modules]=574
     [random_800]=5778 [seven_steps]=619 [seven_others]=614
 )
 
@@ -136,12 +149,14 @@ measure() {
     [ "$(head -1 "$work/answer")" = "$(head -1 "$work/plainly")" ]
     counts[$1]="$proved $plain"
     awk -v name="$1" -v proved="$proved" -v plain="$plain" -v head="$(head -1 "$work/answer")" \
-        'BEGIN { printf "%-14s %-13s %9d of %8d instructions, ratio %.2f\n", name, head, proved, plain, proved / plain }'
+        'BEGIN { printf "%-14s %-13s %9d of %8d instructions, ratio %.2f\n", \
+            name, head, proved, plain, proved / plain }'
     judge "the ratio of $1" "$(awk "BEGIN { printf \"%.2f\", $proved / $plain }")" "${greatest[$1]}"
     measure_steady "$1" "$proved"
 }
 
-# What `switch` prints, on standard input: the changes, the pairs that are cut or joined, and the bytes
+# What `switch` prints, on standard input: the changes, the pairs that are cut or joined,
+# and the bytes
 count_changes() {
     awk '
         { at = $3 ~ /^[ab]$/ ? 4 : 3; bytes += NF - at + 1 }
@@ -155,7 +170,8 @@ count_changes() {
         END { print changes + 0, pairs + 0, bytes + 0 }'
 }
 
-# NAME PLANNED: counts `plan --steady` for the batch in the file of that name, which `plan` takes so many instructions for
+# NAME PLANNED: counts `plan --steady` for the batch in the file of that name,
+# which `plan` takes so many instructions for
 measure_steady() {
     local steady changes pairs bytes
     "$program" plan --quiet "$work/$1" >"$work/planned"
@@ -164,23 +180,28 @@ measure_steady() {
     "$program" check "$work/$1" "$work/steady" | grep -q '^shortest'
     "$program" switch --quiet "$work/$1" --schedule "$work/steady" >"$work/bytes"
     read -r changes pairs bytes < <(count_changes <"$work/bytes")
-    [ -z "${most_changes[$1]-}" ] || judge "changes of a steady plan of $1" "$changes" "${most_changes[$1]}"
+    [ -z "${most_changes[$1]-}" ] ||
+        judge "changes of a steady plan of $1" "$changes" "${most_changes[$1]}"
     [ -z "${most_bytes[$1]-}" ] || judge "bytes of a steady plan of $1" "$bytes" "${most_bytes[$1]}"
     measured=$((measured + 1))
     [ "$counts_all" ] || return 0
     steady=$(instructions "$program" plan --quiet "$work/$1" --steady)
     : "${steady:?not counted}" "${2:?not counted}"
     steady_counts[$1]=$steady
-    awk -v name="$1" -v steady="$steady" -v planned="$2" -v changes="$changes" -v pairs="$pairs" -v bytes="$bytes" 'BEGIN {
-        printf "%-17s steady: %8d of %8d instructions, ratio %.2f; changes %d, pairs %d, bytes %d\n", \
-            name, steady, planned, steady / planned, changes, pairs, bytes }'
-    judge "the ratio of a steady plan of $1" "$(awk "BEGIN { printf \"%.3f\", $steady / $2 }")" "${greatest_steady[$1]}"
+    awk -v name="$1" -v steady="$steady" -v planned="$2" \
+        -v changes="$changes" -v pairs="$pairs" -v bytes="$bytes" 'BEGIN {
+        printf "%-17s steady: %8d of %8d instructions, ratio %.2f; ", \
+            name, steady, planned, steady / planned
+        printf "changes %d, pairs %d, bytes %d\n", changes, pairs, bytes }'
+    judge "the ratio of a steady plan of $1" "$(awk "BEGIN { printf \"%.3f\", $steady / $2 }")" \
+        "${greatest_steady[$1]}"
 }
 
 # NAME: how the counts grow from 1024 transfers to 4096
 growth() {
     echo "$1 ${counts[$1]} ${counts[$1-1024]}" \
-        | awk '{ printf "%-14s from 1024 to 4096: times %.2f, of plain Rust times %.2f\n", $1, $2 / $4, $3 / $5 }'
+        | awk '{ printf "%-14s from 1024 to 4096: times %.2f, of plain Rust times %.2f\n", \
+            $1, $2 / $4, $3 / $5 }'
 }
 
 # NAME WHAT MANY FEW MOST: how many times as much one count is as another
@@ -208,11 +229,13 @@ from_to 2731 0 1 0 >"$work/part"
 python3 "$here/steady_batches.py" "$work"
 declare -A counts steady_counts
 measured=0
-for name in scrambled one_link odd star two_by_two three_by_three four_by_two sixteen_by_three thirty_two_by_two \
+for name in scrambled one_link odd star two_by_two three_by_three four_by_two sixteen_by_three \
+    thirty_two_by_two \
     part wide scrambled-1024 one_link-1024; do
     measure $name
 done
-for name in all_to_all in_rounds halo random_16 random_32 random_256 sixty_pairs gather butterfly permutations once_each \
+for name in all_to_all in_rounds halo random_16 random_32 random_256 sixty_pairs gather butterfly \
+    permutations once_each \
     random_512 ten_modules random_800 seven_steps seven_others; do
     measure_steady "$name" "$(counted "$program" plan --quiet "$work/$name" --workers 1)"
 done
@@ -220,12 +243,14 @@ if [ "$counts_all" ]; then
     growth scrambled
     growth one_link
     for name in scrambled one_link; do
-        times $name "steady from 1024 to 4096" "${steady_counts[$name]}" "${steady_counts[$name-1024]}" $greatest_steady_growth
+        times $name "steady from 1024 to 4096" "${steady_counts[$name]}" \
+            "${steady_counts[$name-1024]}" $greatest_steady_growth
     done
     times one_link "switch from 1024 to 4096" "$(instructions "$program" switch "$work/one_link")" \
         "$(instructions "$program" switch "$work/one_link-1024")" $greatest_growth
     for name in scrambled once_each; do
-        times $name "not quiet" "$(instructions "$program" plan "$work/$name")" "$(instructions "$program" plan --quiet "$work/$name")" $greatest_told
+        times $name "not quiet" "$(instructions "$program" plan "$work/$name")" \
+            "$(instructions "$program" plan --quiet "$work/$name")" $greatest_told
     done
 fi
 if [ "$has_rustc" ]; then
@@ -233,13 +258,16 @@ if [ "$has_rustc" ]; then
     told=$("$here/told.py" "$program" "$work/search" 1000)
     echo "$told"
     best=$(sed -n 's/^the fewest changes have \([0-9]*\) .*/\1/p' <<<"$told")
-    judge "small batches of 1000 whose steady plans have more changes than the fewest" "$((1000 - ${best:?not told}))" 70
+    judge "small batches of 1000 whose steady plans have more changes than the fewest" \
+        "$((1000 - ${best:?not told}))" 60
     unshown=${told##*, }
-    judge "small batches of 1000 whose steady plans aren't shown to have the fewest" "${unshown%% *}" 85
+    judge "small batches of 1000 whose steady plans aren't shown to have the fewest" \
+        "${unshown%% *}" 85
     more=$(sed -n 's/^together they have \([0-9.]*\) .*/\1/p' <<<"$told")
     judge "changes of these plans, in 100 of the fewest" "$more" 2
     share=$(sed -n 's/.*told so: \([0-9.]*\) .*/\1/p' <<<"$told")
-    judge "of 100 that have the fewest, those that aren't told so" "$(awk "BEGIN { print 100 - ${share:?not told} }")" 2
+    judge "of 100 that have the fewest, those that aren't told so" \
+        "$(awk "BEGIN { print 100 - ${share:?not told} }")" 2
 fi
 python3 "$here/steps.py" ${check:+--check} || failed=yes
 echo "planning: $measured batches planned, $judged figures judged"

@@ -1,9 +1,11 @@
 #!/usr/bin/env python3
-"""Writes the batches that a study of steady plans compared, each into a file of its name: steady_batches.py FOLDER
+"""Writes the batches that a study of steady plans compared,
+each into a file of its name: steady_batches.py FOLDER
 
-No two transfers of a batch write one block, so it can be run. Where more blocks come to a module than it has, that can't be. Then
-one block is written again and again, and standard output says so. Random batches are drawn one after another from one seed, so the
-order of the batches is part of them.
+No two transfers of a batch write one block, so it can be run. Where more blocks come to a module
+than it has, that can't be. Then one block is written again and again, and standard output says so.
+Random batches are drawn one after another from one seed, so the order of the batches is part of
+them.
 """
 
 import random
@@ -31,8 +33,8 @@ def permuted_pairs(draw, count, modules, most):
         yield from [pair for pair in enumerate(to) for _ in range(times)]
 
 
-# Two batches that seven steps make, each of one matching of ten modules: for how many settings, and to which module each one sends.
-# Steps that are as long as any make 20 and 19 of them
+# Two batches that seven steps make, each of one matching of ten modules: for how many settings, and
+# to which module each one sends. Steps that are as long as any make 20 and 19 of them
 SEVEN_STEPS = [
     (50, "6951430782"), (25, "9265740831"), (18, "6130298475"), (42, "4026798351"),
     (53, "1860795432"), (59, "4327085619"), (35, "5361072489"),
@@ -44,7 +46,12 @@ SEVEN_OTHERS = [
 
 
 def step_pairs(steps):
-    return [(m, int(to)) for settings, targets in steps for m, to in enumerate(targets) for _ in range(settings)]
+    return [
+        (m, int(to))
+        for settings, targets in steps
+        for m, to in enumerate(targets)
+        for _ in range(settings)
+    ]
 
 
 def each_to_each(modules):
@@ -52,7 +59,8 @@ def each_to_each(modules):
 
 
 def batches():
-    """The name of each batch, and of each of its transfers the module that starts it and the one that answers."""
+    """The name of each batch, and of each of its transfers the module that starts it
+    and the one that answers."""
     draw = random.Random(7)
     yield "all_to_all", [pair for pair in each_to_each(16) for _ in range(17)]
     yield "in_rounds", each_to_each(16) * 17
@@ -60,7 +68,9 @@ def batches():
     yield "random_16", random_pairs(draw, 4096, 16)
     yield "random_32", random_pairs(draw, 4096, 32)
     yield "random_256", random_pairs(draw, 256, 16)
-    yield "sixty_pairs", [pair for pair in random_pairs(draw, 60, 16) for _ in range(draw.randrange(1, 65))]
+    yield "sixty_pairs", [
+        pair for pair in random_pairs(draw, 60, 16) for _ in range(draw.randrange(1, 65))
+    ]
     yield "gather", [(m, 0) for m in range(1, 16) for _ in range(64)]
     yield "butterfly", [(m, m ^ 1 << bit) for bit in range(4) for m in range(16) for _ in range(64)]
     yield "permutations", list(permuted_pairs(draw, 8, 32, 16))
@@ -73,8 +83,8 @@ def batches():
 
 
 def lines(pairs):
-    """The lines of the transfers. A module sends its last block, and those that come to it are its first ones. So no block that is sent
-    is written, unless as many come as it has."""
+    """The lines of the transfers. A module sends its last block, and those that come to it are its
+    first ones. So no block that is sent is written, unless as many come as it has."""
     come = Counter()
     for m, n in pairs:
         yield f"push {m} {BLOCKS - 1} {n} {come[n] % BLOCKS}\n"

@@ -1,8 +1,10 @@
 #!/usr/bin/env python3
-"""Counts the steps of planning in plain Python, beside the most that are proved (`most_steps` of schedule_certificate): steps.py [--check]
+"""Counts the steps of planning in plain Python, beside the most that are proved (`most_steps` of
+schedule_certificate): steps.py [--check]
 
-It plans as the program does with one worker, and counts where the program's loops tick. With --check the status is 1 where more
-steps were taken than may be, or where the bound is more than GREATEST times as much, but for batches that one link is in all of.
+It plans as the program does with one worker, and counts where the program's loops tick. With
+--check the status is 1 where more steps were taken than may be, or where the bound is more than
+GREATEST times as much, but for batches that one link is in all of.
 """
 
 import collections
@@ -25,8 +27,14 @@ def degree(part):
 
 
 def halves(part, times):
-    """Those of a pair go left and right in turn. Of an odd number of them one is left over: walks say where it goes."""
-    left, odd = set(), set() if times else {ends for ends, count in collections.Counter(part).items() if count % 2}
+    """Those of a pair go left and right in turn. Of an odd number of them one is left over:
+    walks say where it goes."""
+    left, odd = (
+        set(),
+        set()
+        if times
+        else {ends for ends, count in collections.Counter(part).items() if count % 2},
+    )
     tick(0 if times else len(part) + len(odd) + MODULES)
     for start in range(MODULES):
         first = True
@@ -65,7 +73,8 @@ def insert(rows, ends):
 
 
 def colours(part, shape, most, exact, times):
-    """The rows of a part whose degree is at most this, or just this; the shape is how many modules start, and the width."""
+    """The rows of a part whose degree is at most this, or just this;
+    the shape is how many modules start, and the width."""
     if not exact and len(part) <= shape[1] * (most - 1):
         tick(len(part))
         most = degree(part)
@@ -77,7 +86,11 @@ def colours(part, shape, most, exact, times):
     left, right = halves(part, times)
     if most == 2:
         return [row(left), row(right, 1)]
-    rows = [held for half in (left, right) for held in colours(half, shape, (most + 1) // 2, most % 2 == 0, max(times - 1, 0))]
+    rows = [
+        held
+        for half in (left, right)
+        for held in colours(half, shape, (most + 1) // 2, most % 2 == 0, max(times - 1, 0))
+    ]
     tick(LINKS * len(rows))
     if len(rows) > most:
         smallest = min(range(len(rows)), key=lambda c: len(rows[c]))
@@ -94,7 +107,13 @@ def planned(part):
     bits = functools.reduce(operator.or_, collections.Counter(part).values())
     count, most = len(part), degree(part)
     tick(5 * count + (count if most < count else 0))
-    rows = colours(part, (shape[0], min(shape)), most, True, (bits & -bits).bit_length() - 1 if most < count else 0)
+    rows = colours(
+        part,
+        (shape[0], min(shape)),
+        most,
+        True,
+        (bits & -bits).bit_length() - 1 if most < count else 0,
+    )
     assert len(rows) == most and sum(map(len, rows)) == 2 * count
     tick(3 * count + (shape[0] + 1) * most)
     return most
@@ -113,8 +132,12 @@ for count in 512, 4096:
         settings, n = planned([(m, MODULES + to) for m, to in moves]), len(moves)
         k = (settings - 1).bit_length()
         most = 32 * n * k + 11 * n + 4 * LINKS * ((k + 2) * 2**k - 1) + (MODULES + 1) * 2**k
-        print(f"{name:13} {n:4} transfers, {settings:4} settings: {steps:7} steps, at most {most:8}, ratio {most / steps:.1f}")
-        # The bound has cells for each colour at each level. Where all transfers share a link, one table is made, and no level is below
+        print(
+            f"{name:13} {n:4} transfers, {settings:4} settings: {steps:7} steps, at most {most:8}, "
+            f"ratio {most / steps:.1f}"
+        )
+        # The bound has cells for each colour at each level. Where all transfers share a link, one
+        # table is made, and no level is below
         for figure, greatest in (steps, most), (most / steps, GREATEST if settings < n else most):
             if figure > greatest:
                 print(f"WRONG: {name}: {figure:.1f} is over {greatest}")

@@ -1,8 +1,10 @@
 #!/usr/bin/env python3
-"""Counts how many small batches have steady plans with the fewest changes, and of how many `draw` says so: told.py PROGRAM SEARCH [BATCHES]
+"""Counts how many small batches have steady plans with the fewest changes, and of how many `draw`
+says so: told.py PROGRAM SEARCH [BATCHES]
 
-SEARCH is fewest_changes.rs, compiled: it tries all shortest schedules. Two to five modules send each other up to nine blocks, by
-chance. Without a number these are 1000 batches. The status is 1 where `draw` says that more changes are needed than some schedule has.
+SEARCH is fewest_changes.rs, compiled: it tries all shortest schedules. Two to five modules send
+each other up to nine blocks, by chance. Without a number these are 1000 batches. The status is 1
+where `draw` says that more changes are needed than some schedule has.
 """
 
 import random
@@ -27,16 +29,22 @@ def printed(*words, text=None):
 
 
 def told(program, search, text):
-    """What the title of the picture of a steady plan says behind its changes, and whether these are the fewest."""
+    """What the title of the picture of a steady plan says behind its changes,
+    and whether these are the fewest."""
     with tempfile.NamedTemporaryFile("w+") as batch:
         batch.write(text)
         batch.flush()
         plan = printed(program, "plan", batch.name, "--steady")
         picture = printed(program, "draw", batch.name, "-", text=plan)
         fewest = int(printed(search, batch.name))
-    changes, words, least = re.search(r"changes (\d+), (the fewest with so few settings|the fewest|at least)(?: (\d+))?,", picture).groups()
+    changes, words, least = re.search(
+        r"changes (\d+), (the fewest with so few settings|the fewest|at least)(?: (\d+))?,", picture
+    ).groups()
     if not int(least or changes) <= fewest <= int(changes):
-        sys.exit(f"WRONG: of changes {changes}, where {fewest} are the fewest, it is told: {words} {least or ''}\n{text}")
+        sys.exit(
+            f"WRONG: of changes {changes}, where {fewest} are the fewest, it is told: "
+            f"{words} {least or ''}\n{text}"
+        )
     return words, int(changes), fewest
 
 
@@ -46,8 +54,14 @@ all_told = [told(sys.argv[1], sys.argv[2], batch_text(draw)) for _ in range(coun
 counts = Counter(words for words, _, _ in all_told)
 best = [words for words, changes, fewest in all_told if changes == fewest]
 said = sum(words != "at least" for words in best)
-print(f"the fewest changes have {len(best)} of {count} batches, and {said} of these are told so: {100 * said / len(best):.2f} in 100")
+print(
+    f"the fewest changes have {len(best)} of {count} batches, and {said} of these are told so: "
+    f"{100 * said / len(best):.2f} in 100"
+)
 both = [sum(numbers) for numbers in zip(*(it[1:] for it in all_told))]
 worst = max((it[1:] for it in all_told), key=lambda it: it[0] / max(it[1], 1))
-print(f"together they have {100 * both[0] / both[1] - 100:.2f} in 100 more than the fewest, and at worst {worst[0]} where {worst[1]} are enough")
+print(
+    f"together they have {100 * both[0] / both[1] - 100:.2f} in 100 more than the fewest, "
+    f"and at worst {worst[0]} where {worst[1]} are enough"
+)
 print(f"of {count} batches: " + ", ".join(f"{counts[words]} {words}" for words in WORDS))

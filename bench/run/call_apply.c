@@ -1,4 +1,5 @@
-/* Calls exchange_apply, and writes the image that it gives: call_apply SHAPE BATCH IMAGE, where BATCH and IMAGE are files. */
+/* Calls exchange_apply, and writes the image that it gives: call_apply SHAPE BATCH IMAGE, where
+ * BATCH and IMAGE are files. */
 #include "exchange.h"
 #include <stdio.h>
 #include <stdlib.h>
@@ -25,7 +26,7 @@ int main(int argc, char **argv)
         return EXIT_FAILURE;
     size_t batch_bytes = read_file(argv[2], batch);
     size_t image_bytes = read_file(argv[3], image);
-    uint8_t status = exchange_apply((const uint8_t *)argv[1], strlen(argv[1]), batch, batch_bytes, image, image_bytes, out,
-                                    sizeof out, &count);
+    uint8_t status = exchange_apply((const uint8_t *)argv[1], strlen(argv[1]), batch, batch_bytes,
+                                    image, image_bytes, out, sizeof out, &count);
     return status == 0 && fwrite(out, 1, count, stdout) == count ? EXIT_SUCCESS : EXIT_FAILURE;
 }

@@ -1,7 +1,9 @@
-// Clients that ask, and hear each answer, each in a process of its own: client CLIENTS LINES BURST FILE..
+// Clients that ask, and hear each answer, each in a process of its own:
+// client CLIENTS LINES BURST FILE..
 //
-// Each says BURST lines at once, hears as many replies, and so on, until it has said LINES of them. With two files a client it is one of `host`:
-// it says `peek` lines to the first and hears the replies from the second. With one file it is a client of Redis at that socket: it sets eight
+// Each says BURST lines at once, hears as many replies, and so on, until it has said LINES of them.
+// With two files a client it is one of `host`: it says `peek` lines to the first and hears the
+// replies from the second. With one file it is a client of Redis at that socket: it sets eight
 // bytes. Once all are connected, client prints how many lines a second were answered.
 #include <fcntl.h>
 #include <stdio.h>
@@ -74,7 +76,8 @@ int main(int count, char **words)
         return 2;
     int clients = atoi(words[1]), lines = atoi(words[2]), burst = atoi(words[3]), files = count - 4;
     int ready[2], begins[2], well = 1;
-    if (burst < 1 || burst > MOST || (files != 1 && files != 2 * clients) || pipe(ready) != 0 || pipe(begins) != 0)
+    if (burst < 1 || burst > MOST || (files != 1 && files != 2 * clients) || pipe(ready) != 0 ||
+        pipe(begins) != 0)
         return 2;
     for (int k = 0; k < clients; k++)
         if (fork() == 0) {

@@ -1,10 +1,13 @@
 #!/usr/bin/env bash
-# Measures how many `peek` lines a second live clients of `host` are answered: live.sh [ROUNDS [PROGRAM..]]
+# Measures how many `peek` lines a second live clients of `host` are answered:
+# live.sh [ROUNDS [PROGRAM..]]
 #
-# One client and sixteen, in processes of their own (client.c), say a line once they have heard the reply to the one before, or 16 or 64 lines at
-# once: without a record, with one, and with one whose entries are waited for (--sync). Each PROGRAM, as an older build, is measured beside the
-# built one, and where there is a redis-server, so are clients that set eight bytes, with its record (appendonly), each second or always on the
-# disk. All are measured in turn, in ROUNDS rounds, five unless given, and the medians are printed. Records lie in the folder that TMPDIR names.
+# One client and sixteen, in processes of their own (client.c), say a line once they have heard the
+# reply to the one before, or 16 or 64 lines at once: without a record, with one, and with one whose
+# entries are waited for (--sync). Each PROGRAM, as an older build, is measured beside the built
+# one, and where there is a redis-server, so are clients that set eight bytes, with its record
+# (appendonly), each second or always on the disk. All are measured in turn, in ROUNDS rounds, five
+# unless given, and the medians are printed. Records lie in the folder that TMPDIR names.
 #
 # Needs python3 and a C compiler. Build the program first: ./exchange prove
 set -eu
@@ -14,13 +17,18 @@ import os, shutil, statistics, subprocess, sys, tempfile, time
 
 here, rounds = sys.argv[1], int(sys.argv[2]) if len(sys.argv) > 2 else 5
 programs = [f"{here}/../../crates/exchange/out/exchange", *map(os.path.abspath, sys.argv[3:])]
-RECORDS = {"no record": [], "a record": ["--record", "record"], "--sync": ["--record", "record", "--sync"]}
+RECORDS = {
+    "no record": [],
+    "a record": ["--record", "record"],
+    "--sync": ["--record", "record", "--sync"],
+}
 PACES = {1: 10_000, 16: 40_000, 64: 80_000}  # Lines of a client, by how many it says at once.
 
 
 def heard(clients, lines, burst, *files):
     """The lines a second that these clients are answered."""
-    said = subprocess.run(["./client", str(clients), str(lines), str(burst), *files], capture_output=True, text=True)
+    words = ["./client", str(clients), str(lines), str(burst), *files]
+    said = subprocess.run(words, capture_output=True, text=True)
     if said.returncode:
         sys.exit("live: a client isn't answered each line")
     return int(said.stdout)
@@ -35,7 +43,8 @@ def of_host(program, clients, burst, record):
     files = [f"{name}.{end}" for name in names for end in ("in", "out")]
     for file in files:
         os.mkfifo(file)
-    host = subprocess.Popen([program, "host", "1x1x1", *names, *RECORDS[record]], stdout=subprocess.DEVNULL)
+    words = [program, "host", "1x1x1", *names, *RECORDS[record]]
+    host = subprocess.Popen(words, stdout=subprocess.DEVNULL)
     answered = heard(clients, lines_of(clients, burst, record == "--sync"), burst, *files)
     if host.wait():
         sys.exit("live: the host fails")
@@ -45,7 +54,8 @@ def of_host(program, clients, burst, record):
 
 
 def of_redis(clients, burst, how):
-    words = ["--port", "0", "--unixsocket", "socket", "--save", "", "--appendonly", "yes", "--appendfsync", how]
+    words = ["--port", "0", "--unixsocket", "socket", "--save", ""]
+    words += ["--appendonly", "yes", "--appendfsync", how]
     server = subprocess.Popen(["redis-server", *words], stdout=subprocess.DEVNULL)
     while not os.path.exists("socket"):
         time.sleep(0.01)
@@ -58,7 +68,8 @@ def of_redis(clients, burst, how):
 
 with tempfile.TemporaryDirectory() as room:
     os.chdir(room)
-    subprocess.run([os.environ.get("CC", "cc"), "-O2", "-o", "client", f"{here}/client.c"], check=True)
+    compiler = os.environ.get("CC", "cc")
+    subprocess.run([compiler, "-O2", "-o", "client", f"{here}/client.c"], check=True)
     forms = {}
     for clients in 1, 16:
         for burst in PACES:
@@ -66,10 +77,12 @@ with tempfile.TemporaryDirectory() as room:
             for record in RECORDS:
                 for program in programs:
                     whose = "" if program == programs[0] else f", {program}"
-                    forms[f"{clients} clients, {at_once}, {record}{whose}"] = of_host, program, clients, burst, record
+                    form = f"{clients} clients, {at_once}, {record}{whose}"
+                    forms[form] = of_host, program, clients, burst, record
             if shutil.which("redis-server"):
                 for how in "everysec", "always":
-                    forms[f"{clients} clients, {at_once}, redis-server, {how}"] = of_redis, clients, burst, how
+                    form = f"{clients} clients, {at_once}, redis-server, {how}"
+                    forms[form] = of_redis, clients, burst, how
     found = {form: [] for form in forms}
     for _ in range(rounds):
         for form, (way, *words) in forms.items():

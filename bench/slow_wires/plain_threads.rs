@@ -1,6 +1,7 @@
-//! Plain threads that only watch the clock, as long as the busy wires of slow_wires.rattle do: 8 settings of 4096 words, 6
-//! microseconds a word. One thread starts all others in turn, or each starts another for half of its work, as the
-//! workers of a run do. Each time is that of the quickest of fifteen.
+//! Plain threads that only watch the clock, as long as the busy wires of slow_wires.rattle do: 8
+//! settings of 4096 words, 6 microseconds a word. One thread starts all others in turn, or each
+//! starts another for half of its work, as the workers of a run do. Each time is that of the
+//! quickest of fifteen.
 
 use std::thread::scope;
 use std::time::{Duration, Instant};
@@ -52,6 +53,9 @@ fn main() {
     for threads in [1, 2, 4, 16] {
         let turn = quickest(|| in_turn(threads)).as_micros();
         let halves = quickest(|| halved(threads, WORDS)).as_micros();
-        println!("plain, {threads} threads: {turn} microseconds where one starts all, {halves} where each halves its work");
+        println!(
+            "plain, {threads} threads: {turn} microseconds where one starts all, \
+             {halves} where each halves its work"
+        );
     }
 }

@@ -1,6 +1,7 @@
 #!/usr/bin/env bash
-# Measures how many words a second one thread moves by push_word, with and without the bits of the links. The program
-# wire_speed.rattle is proved and built first (../copy.sh). With valgrind on the PATH it also counts the allocations.
+# Measures how many words a second one thread moves by push_word, with and without the bits of the
+# links. The program wire_speed.rattle is proved and built first (../copy.sh). With valgrind on the
+# PATH it also counts the allocations.
 set -eu
 here=$(cd "$(dirname "${BASH_SOURCE[0]}")" && pwd)
 top=$here/../..

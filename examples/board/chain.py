@@ -1,7 +1,9 @@
-"""What the programs of a board have in common: the ways of its cable, the numbers that go along its chain of modules, and tables with their
-sums. host.py, relay.py, the programs of examples/rack and those that make tables use it; docs/BOARD.md says more.
+"""What the programs of a board have in common: the ways of its cable, the numbers that go along its
+chain of modules, and tables with their sums. host.py, relay.py, the programs of examples/rack and
+those that make tables use it; docs/BOARD.md says more.
 
-A number has two bytes, the lower one first. That of a setting has the modules do their orders of it.
+A number has two bytes, the lower one first. That
+of a setting has the modules do their orders of it.
 """
 
 import sys
@@ -9,9 +11,10 @@ import sys
 # The ways of a cable. Before each byte goes the number of its way.
 SWITCH, MODULES, SWITCH_B = 0, 1, 2
 
-# END ends the modules, and WAIT comes back once all of them wait. For TABLES each module tells the sum of its tables, how many blocks it
-# has, and how many words each. After FILL come the words of the first module that hasn't been filled since WAIT. For READ each module tells
-# what it tells for TABLES, and its words.
+# END ends the modules, and WAIT comes back once all of them wait. For TABLES each module tells the
+# sum of its tables, how many blocks it has, and how many words each. After FILL come the words of
+# the first module that hasn't been filled since WAIT. For READ each module tells what it tells for
+# TABLES, and its words.
 END, WAIT, TABLES, FILL, READ = -1, -2, -3, -4, -5
 
 # How many numbers a module tells for TABLES.
@@ -35,7 +38,9 @@ def sent(*numbers):
 
 def numbers(told):
     """The numbers that came along the chain."""
-    return [int.from_bytes(told[at : at + 2], "little", signed=True) for at in range(0, len(told), 2)]
+    return [
+        int.from_bytes(told[at : at + 2], "little", signed=True) for at in range(0, len(told), 2)
+    ]
 
 
 def sum_of(numbers):
@@ -47,20 +52,27 @@ def sum_of(numbers):
 
 
 def rows(settings):
-    """What a module does in each setting: for link 0 and for link 3 an act, and the block. A setting is the link, the act and the block of
-    each order. Without a setting there is a row that is idle."""
+    """What a module does in each setting: for link 0 and for link 3 an act, and the block. A
+    setting is the link, the act and the block of each order. Without a setting there is a row that
+    is idle."""
     done = [{link: (act, block) for link, act, block in setting} for setting in settings or [[]]]
     return [[links.get(link, (IDLE, 0)) for link in LINKS] for links in done]
 
 
 def orders_sum(copies, settings):
     """The sum of the tables of a module."""
-    acts = [number for row in rows(settings) for act, block in row for number in (ACTS.index(act), block)]
+    acts = [
+        number
+        for row in rows(settings)
+        for act, block in row
+        for number in (ACTS.index(act), block)
+    ]
     return sum_of([len(copies), *copies, len(settings), *acts])
 
 
 def read_orders(text):
-    """How many settings there are in what `exchange orders` prints, and by the number of each module that has orders its copies and settings."""
+    """How many settings there are in what `exchange orders` prints, and by the number of each
+    module that has orders its copies and settings."""
     head, *lines = [line.split(" ") for line in text.splitlines()] or [[]]
     if head[:1] != ["modules"]:
         sys.exit("wanted is what `exchange orders BATCH` prints")
@@ -76,7 +88,8 @@ def read_orders(text):
 
 
 def orders_of_one(text):
-    """The only module of what `exchange orders --module M` prints, or none, and its copies and settings."""
+    """The only module of what `exchange orders --module M` prints, or none,
+    and its copies and settings."""
     count, modules = read_orders(text)
     if len(modules) > 1:
         sys.exit("wanted are the orders of one module: exchange orders BATCH --module M")
@@ -84,7 +97,8 @@ def orders_of_one(text):
 
 
 def read_switch(text):
-    """The bytes of all settings that `exchange switch` prints for one switch, and where those of each end."""
+    """The bytes of all settings that `exchange switch` prints for one switch,
+    and where those of each end."""
     found, ends = b"", []
     for line in text.splitlines():
         word, number, *pairs = line.split()

@@ -1,17 +1,22 @@
 #!/usr/bin/env python3
-"""One cable to a board: over it `exchange drive` sets the switch, and the modules hear which setting stands.
+"""One cable to a board: over it `exchange drive` sets the switch,
+and the modules hear which setting stands.
 
-    host.py CABLE BATCH [--steady | --schedule FILE] [--wiring FILE] [--from K] [--switches 2] [--image FILE] [--image-out FILE]
-            [--pause] [--tables] [--patience SECONDS]
+    host.py CABLE BATCH [--steady | --schedule FILE] [--wiring FILE] [--from K] [--switches 2]
+            [--image FILE] [--image-out FILE] [--pause] [--tables] [--patience SECONDS]
 
-CABLE is a device, or the two named pipes CABLE.in, to the board, and CABLE.out, from it; --steady, --schedule, --wiring and --from are those
-of `drive`. Before a word moves, the tables of all modules are compared with the orders of BATCH. With --image the modules get the words of
-an image, as `apply` has them, before the first setting, and with --image-out those that they have in the end are put into a file. A rack of
-more than 16 modules has two switches, and one of fewer with --switches 2. With --pause it waits for the return key before the modules hear
-of a setting, unless its input has ended. With --tables the board sets its switch itself, by the tables of relay.c.
+CABLE is a device, or the two named pipes CABLE.in, to the board, and CABLE.out, from it; --steady,
+--schedule, --wiring and --from are those of `drive`. Before a word moves, the tables of all modules
+are compared with the orders of BATCH. With --image the modules get the words of an image, as
+`apply` has them, before the first setting, and with --image-out those that they have in the end are
+put into a file, which is opened first. A rack of more than 16 modules has two switches, and one of
+fewer with --switches 2. With --pause it waits for the return key before the modules hear of a
+setting, unless its input has ended. With --tables the board sets its switch itself, by the tables
+of relay.c.
 
-Where nothing has come for five seconds, a line on standard error says what is awaited. With --patience it ends with status 4 where nothing
-has come for so many seconds. docs/BOARD.md says more. The program is the one that EXCHANGE names, or `exchange` on the PATH, or in this folder.
+Where nothing has come for five seconds, a line on standard error says what is awaited. With
+--patience it ends with status 4 where nothing has come for so many seconds. docs/BOARD.md says
+more. The program is the one that EXCHANGE names, or `exchange` on the PATH, or in this folder.
 """
 
 import argparse
@@ -31,13 +36,24 @@ import time
 # Nothing is left in the folder of the examples.
 sys.dont_write_bytecode = True
 
-from chain import END, FILL, MODULES, ON_ONE_SWITCH, READ, SWITCH, SWITCH_B, TABLES, TOLD, WAIT  # noqa: E402
+from chain import (
+    END,
+    FILL,
+    MODULES,
+    ON_ONE_SWITCH,
+    READ,
+    SWITCH,
+    SWITCH_B,
+    TABLES,
+    TOLD,
+    WAIT,
+)  # noqa: E402
 from chain import numbers, orders_sum, read_orders, read_switch, sent, switch_sum  # noqa: E402
 
 PROGRAM = os.path.abspath(os.environ.get("EXCHANGE") or shutil.which("exchange") or "exchange")
 
-# Seconds without a byte after which a line says what is awaited; those for which nothing may come, that what an earlier host left is taken as
-# dropped; and those in which that has to be so.
+# Seconds without a byte after which a line says what is awaited; those for which nothing may come,
+# that what an earlier host left is taken as dropped; and those in which that has to be so.
 TELL, DROPPED, DROP = 5, 0.5, 10
 
 # Bytes that nobody awaits.
@@ -62,12 +78,15 @@ class Cable:
     """The cable, whose bytes are parted by their ways."""
 
     def __init__(self, name, patience=None):
-        there, back = (f"{name}.in", f"{name}.out") if os.path.exists(f"{name}.in") else (name, name)
+        there, back = (
+            (f"{name}.in", f"{name}.out") if os.path.exists(f"{name}.in") else (name, name)
+        )
         if any(stat.S_ISREG(os.stat(end).st_mode) for end in (there, back)):
             fail(f"{name} is a plain file, and no cable")
         self.name, self.patience = name, patience
         self.going, self.begun, self.readers = bytearray(), b"", {}
-        # What the modules have said, and the board that sets its switch itself; and where answers of a switch go.
+        # What the modules have said, and the board that sets its switch itself;
+        # and where answers of a switch go.
         self.heard, self.answers = {MODULES: bytearray()}, {}
         self.out = self.drive = None
         self.wait(lambda: self.is_open(there), f"a relay that reads {there}")
@@ -127,10 +146,13 @@ class Cable:
         fail(f"the cable has ended, and awaited was {self.awaited}")
 
     def wait(self, is_there, awaited):
-        """Carries bytes until what is awaited is there. Where nothing comes, a line says what it is."""
+        """Carries bytes until what is awaited is there. Where nothing comes,
+        a line says what it is."""
         since, is_told, self.awaited = time.monotonic(), False, awaited
         while not is_there():
-            coming, going, _ = select.select([*self.readers], [self.out] if self.going else [], [], 0.1)
+            coming, going, _ = select.select(
+                [*self.readers], [self.out] if self.going else [], [], 0.1
+            )
             for end in coming:
                 self.readers[end](end)
             if going:
@@ -139,9 +161,15 @@ class Cable:
                 since, is_told = time.monotonic(), False
             quiet = time.monotonic() - since
             if self.patience is not None and quiet >= self.patience:
-                fail(f"nothing has come for {self.patience:g} s; awaited was {self.awaited}", SILENT)
+                fail(
+                    f"nothing has come for {self.patience:g} s; awaited was {self.awaited}", SILENT
+                )
             if quiet >= TELL and not is_told:
-                print(f"host.py: nothing has come for {TELL} s; awaited is {self.awaited}", file=sys.stderr, flush=True)
+                print(
+                    f"host.py: nothing has come for {TELL} s; awaited is {self.awaited}",
+                    file=sys.stderr,
+                    flush=True,
+                )
                 is_told = True
 
     def hear(self, count, awaited, way=MODULES):
@@ -163,10 +191,14 @@ class Cable:
             fail(f"{came} came back, and awaited was {awaited}")
 
     def find_modules(self):
-        """Waits until all modules wait for a setting. What comes before they say so was left of an earlier host."""
+        """Waits until all modules wait for a setting.
+        What comes before they say so was left of an earlier host."""
         self.tell(WAIT)
         heard = self.heard[MODULES]
-        self.wait(lambda: heard.endswith(sent(WAIT)), f"{WAIT} from the modules, which all of them pass on")
+        self.wait(
+            lambda: heard.endswith(sent(WAIT)),
+            f"{WAIT} from the modules, which all of them pass on",
+        )
         heard.clear()
 
     def move(self, setting):
@@ -193,8 +225,8 @@ class Cable:
             modules.append((told, self.hear(size, f"the words of module {len(modules)}")))
 
     def compare(self, count, due):
-        """Compares the tables of all modules with the orders that they should have: how many modules there are, with how many blocks and
-        words."""
+        """Compares the tables of all modules with the orders that they should have: how many
+        modules there are, with how many blocks and words."""
         found = [told for told, _ in self.hear_each(TABLES)]
         wanted = max(due, default=0) + 1
         if len(found) < wanted:
@@ -204,13 +236,22 @@ class Cable:
         for m, (told, *shape) in enumerate(found):
             if told != sums[m]:
                 whose = f"; they are those of module {sums.index(told)}" if told in sums else ""
-                faults.append(f"module {m} has other tables than those of this batch and schedule{whose}")
+                faults.append(
+                    f"module {m} has other tables than those of this batch and schedule{whose}"
+                )
             if shape != found[0][1:]:
-                faults.append(f"module {m} has {shape[0]} blocks of {shape[1]} words, and module 0 has {found[0][1]} of {found[0][2]}")
+                faults.append(
+                    f"module {m} has {shape[0]} blocks of {shape[1]} words, and module 0 has "
+                    f"{found[0][1]} of {found[0][2]}"
+                )
             copies, settings = due.get(m, ([], []))
-            block = max([*copies, *(order[2] for setting in settings for order in setting)], default=0)
+            block = max(
+                [*copies, *(order[2] for setting in settings for order in setting)], default=0
+            )
             if block >= shape[0]:
-                faults.append(f"module {m} has {shape[0]} blocks, and the batch names its block {block}")
+                faults.append(
+                    f"module {m} has {shape[0]} blocks, and the batch names its block {block}"
+                )
         if faults:
             fail("\nhost.py: ".join(faults))
         return len(found), *found[0][1:]
@@ -224,13 +265,20 @@ class Cable:
             self.hear_back(FILL, f"{FILL} from the modules, once module {m} has its words")
 
     def move_by_tables(self, first, found, ends):
-        """Has the board set its switch by its own tables, and the modules move, from a setting on."""
+        """Has the board set its switch by its own tables, and the modules move,
+        from a setting on."""
         self.heard[SWITCH] = bytearray()
         self.send(SWITCH, sent(TABLES))
-        self.hear_back(switch_sum(found, ends), "the sum of the switch's tables, as they are for this batch, schedule and wiring", SWITCH)
+        self.hear_back(
+            switch_sum(found, ends),
+            "the sum of the switch's tables, as they are for this batch, schedule and wiring",
+            SWITCH,
+        )
         self.send(SWITCH, sent(first))
         for setting in range(first, len(ends)):
-            self.hear_back(setting, f"{setting} from the relay, once setting {setting} is moved", SWITCH)
+            self.hear_back(
+                setting, f"{setting} from the relay, once setting {setting} is moved", SWITCH
+            )
             print(f"moved setting {setting}", flush=True)
         self.hear_back(END, f"{END} from the relay, once all is moved", SWITCH)
         print(f"moved settings {len(ends)}", flush=True)
@@ -256,7 +304,11 @@ class Drive:
             if not os.path.exists(f"{ports[-1]}.in"):
                 self.make_port(way, ports[-1])
         batch, *options = words
-        self.process = subprocess.Popen([PROGRAM, "drive", batch, *ports, *options], stdin=subprocess.PIPE, stdout=subprocess.PIPE)
+        self.process = subprocess.Popen(
+            [PROGRAM, "drive", batch, *ports, *options],
+            stdin=subprocess.PIPE,
+            stdout=subprocess.PIPE,
+        )
         cable.readers[self.process.stdout.fileno()] = self.take_lines
 
     def make_port(self, way, port):
@@ -278,7 +330,10 @@ class Drive:
         """The lines that it prints."""
         out = self.process.stdout.fileno()
         while True:
-            self.cable.wait(lambda: b"\n" in self.printed or out not in self.cable.readers, "an answer of the switch to drive")
+            self.cable.wait(
+                lambda: b"\n" in self.printed or out not in self.cable.readers,
+                "an answer of the switch to drive",
+            )
             line, feed, self.printed = self.printed.partition(b"\n")
             if not feed:
                 return
@@ -295,11 +350,17 @@ class Drive:
         self.process.stdin.close()
         self.process.stdin = None
         with contextlib.suppress(subprocess.TimeoutExpired):
-            print((self.printed + self.process.communicate(timeout=DROP)[0]).decode(), end="", flush=True)
+            print(
+                (self.printed + self.process.communicate(timeout=DROP)[0]).decode(),
+                end="",
+                flush=True,
+            )
 
 
 def words_of(arguments):
-    words = argparse.ArgumentParser(usage=" ".join(__doc__.split("\n\n")[1].split()), allow_abbrev=False)
+    words = argparse.ArgumentParser(
+        usage=" ".join(__doc__.split("\n\n")[1].split()), allow_abbrev=False
+    )
     for name in "cable", "batch":
         words.add_argument(name)
     for name in "--schedule", "--wiring", "--image", "--image-out":
@@ -311,15 +372,25 @@ def words_of(arguments):
     words.add_argument("--patience", type=float)
     given = words.parse_args(arguments)
     if given.go_on:
-        fail("by --go-on drive would set the next setting before the modules have moved the blocks of this one")
+        fail(
+            "by --go-on drive would set the next setting before the modules have moved the blocks "
+            "of this one"
+        )
     if "-" in (given.batch, given.schedule, given.wiring):
         fail("no file is standard input: the program reads them more than once")
     return given
 
 
+def open_to_write(name):
+    """Opens a file before there is anything to write. What it has stays until then."""
+    return os.fdopen(os.open(name, os.O_WRONLY | os.O_CREAT, 0o666), "wb")
+
+
 def ask(*words):
     """What the program prints for some words; where it refuses, this one ends as it does."""
-    answer = subprocess.run([PROGRAM, *words], stdout=subprocess.PIPE, stdin=subprocess.DEVNULL, check=False)
+    answer = subprocess.run(
+        [PROGRAM, *words], stdout=subprocess.PIPE, stdin=subprocess.DEVNULL, check=False
+    )
     if answer.returncode:
         print(answer.stdout.decode(), end="", flush=True)
         sys.exit(answer.returncode)
@@ -348,7 +419,10 @@ def main():
     given = words_of(sys.argv[1:])
     if not shutil.which(PROGRAM):
         fail(f"there is no program {PROGRAM}")
-    schedule = [*(["--schedule", given.schedule] if given.schedule else []), *(["--steady"] if given.steady else [])]
+    schedule = [
+        *(["--schedule", given.schedule] if given.schedule else []),
+        *(["--steady"] if given.steady else []),
+    ]
     wiring = ["--wiring", given.wiring] if given.wiring else []
     count, due = read_orders(ask("orders", given.batch, *schedule))
     image = None
@@ -356,9 +430,14 @@ def main():
         with open(given.image, "rb") as file:
             image = file.read()
     switches = ["--switches", given.switches] if given.switches else []
-    by_tables = read_switch(ask("switch", given.batch, *schedule, *wiring, *switches)) if given.tables else None
+    by_tables = (
+        read_switch(ask("switch", given.batch, *schedule, *wiring, *switches))
+        if given.tables
+        else None
+    )
     if by_tables and not (given.first.isdecimal() and int(given.first) <= count):
         fail(f"--from {given.first} names no setting")
+    left = given.image_out and open_to_write(given.image_out)
     cable = Cable(given.cable, given.patience)
     cable.find_modules()
     shape = cable.compare(count, due)
@@ -366,7 +445,10 @@ def main():
         fail("--tables is for a board with one switch")
     if image is not None:
         if len(image) != size_of(shape):
-            fail(f"{given.image} has {len(image)} bytes, and {shape[0]} modules of {shape[1]} blocks of {shape[2]} words have {size_of(shape)}")
+            fail(
+                f"{given.image} has {len(image)} bytes, and {shape[0]} modules of {shape[1]} "
+                f"blocks of {shape[2]} words have {size_of(shape)}"
+            )
         cable.fill(shape, image)
     status = 0
     if by_tables:
@@ -374,14 +456,18 @@ def main():
     else:
         ways = [SWITCH, SWITCH_B] if shape[0] > ON_ONE_SWITCH or switches else [SWITCH]
         with tempfile.TemporaryDirectory(prefix="host-") as folder:
-            drive = Drive(cable, folder, ways, given.batch, *schedule, *wiring, "--from", given.first)
+            drive = Drive(
+                cable, folder, ways, given.batch, *schedule, *wiring, "--from", given.first
+            )
             status = drive_all(cable, drive, given)
     if status == 0:
-        if given.image_out:
-            words = cable.read(shape)
-            with open(given.image_out, "wb") as file:
-                file.write(words)
+        words = cable.read(shape) if left else b""
         cable.end_modules()
+        if left:
+            with left:
+                left.write(words)
+                if os.path.isfile(given.image_out):
+                    left.truncate()
     sys.exit(status)
 
 

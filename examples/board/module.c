@@ -1,8 +1,10 @@
-/* A module's program, with the channels and processes of INMOS's C. Nobody has compiled it by INMOS's compiler, or tried it on a transputer.
- * tools/rack/run.py compiles it by another one, over channels of its own, and has it obey in a rack of processes. docs/BOARD.md says more.
+/* A module's program, with the channels and processes of INMOS's C. Nobody has compiled it by
+ * INMOS's compiler, or tried it on a transputer. tools/rack/run.py compiles it by another one, over
+ * channels of its own, and has it obey in a rack of processes. docs/BOARD.md says more.
  *
- * BLOCKS and BLOCK_BYTES are your own numbers: how many blocks the module has, and how many bytes each. Links 1 and 2 make a chain. Over
- * link 1 comes the number of each setting, once the switch is set. Any other number has no orders. */
+ * BLOCKS and BLOCK_BYTES are your own numbers: how many blocks the module has, and how many bytes
+ * each. Links 1 and 2 make a chain. Over link 1 comes the number of each setting, once the switch
+ * is set. Any other number has no orders. */
 #include <channel.h>
 #include <process.h>
 #include <string.h>
@@ -86,7 +88,8 @@ void obey(int is_last)
         if (k == READ)
             ChanOut(LINK1OUT, memory, sizeof memory);
         if (is_passed)
-            for (ChanIn(LINK2IN, &back, 2); back != k; ChanIn(LINK2IN, &back, 2)) { /* until all after this one are done */
+            /* until all after this one are done */
+            for (ChanIn(LINK2IN, &back, 2); back != k; ChanIn(LINK2IN, &back, 2)) {
                 ChanOut(LINK1OUT, &back, 2);
                 pass(LINK2IN, LINK1OUT, TOLD - 1 + (k == READ ? (int)sizeof memory / 2 : 0));
             }

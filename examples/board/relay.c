@@ -1,14 +1,17 @@
-/* The relay of a board that sets its switch itself, by tables of the switch's bytes. Nobody has compiled it by INMOS's compiler, or tried it on
- * a transputer. tools/rack/run.py compiles it by another one, over channels of its own. docs/BOARD.md says more, and what is lost this way.
+/* The relay of a board that sets its switch itself, by tables of the switch's bytes. Nobody has
+ * compiled it by INMOS's compiler, or tried it on a transputer. tools/rack/run.py compiles it by
+ * another one, over channels of its own. docs/BOARD.md says more, and what is lost this way.
  *
- * Before each byte of the cable goes the number of its way. On way 1, of the modules, the bytes go on. On way 0 come numbers of two bytes: for
- * -3 the sum of the tables goes back; for K, setting K and those after it are set and moved, and for each goes back what the modules give back
- * once they are done. In the end -1 goes back. Where a module gives another number back, this ends. */
+ * Before each byte of the cable goes the number of its way. On way 1, of the modules, the bytes go
+ * on. On way 0 come numbers of two bytes: for -3 the sum of the tables goes back; for K, setting K
+ * and those after it are set and moved, and for each goes back what the modules give back once they
+ * are done. In the end -1 goes back. Where a module gives another number back, this ends. */
 #include <channel.h>
 #include <process.h>
 #include <stddef.h>
 
-/* Your own are CABLEIN, CABLEOUT, CONFIGOUT, CHAININ and CHAINOUT: on which links these are, as #define CABLEIN LINK0IN. */
+/* Your own are CABLEIN, CABLEOUT, CONFIGOUT, CHAININ and CHAINOUT: on which links these are,
+ * as #define CABLEIN LINK0IN. */
 #include "switch.h" /* SETTINGS, bytes, ends, SUM: by switch_to_c.py */
 
 enum { SWITCH, MODULES };
@@ -31,7 +34,8 @@ static void set(int k)
     ChanOut(CONFIGOUT, (void *)(bytes + at), (int)(ends[k] - at));
 }
 
-/* Sets the switch, and moves from a setting on, until another number comes back. Before setting 0 two bytes end a command that was begun. */
+/* Sets the switch, and moves from a setting on, until another number comes back. Before setting 0
+ * two bytes end a command that was begun. */
 static int move_from(short first)
 {
     static unsigned char enough[2] = {3, 3};

@@ -2,11 +2,13 @@
 """The relay of docs/BOARD.md: two loops side by side, a byte each way.
 
     relay.py CABLE CONFIG                     carries the bytes of the configuration link
-    relay.py CABLE CONFIG [CONFIG_B] CHAIN    parts the bytes of one cable, which has those of the modules too
+    relay.py CABLE CONFIG [CONFIG_B] CHAIN    parts the bytes of one cable, which has those of the
+                                              modules too
 
-CABLE and CONFIG are two named pipes each, CABLE.in towards the switch and CABLE.out back. CHAIN is the number of a socket, which leads to
-the first module. On one cable the number of its way comes before each byte: 0 the switch, 1 the modules, 2 switch B. Where the cable ends at
-slot 0, CONFIG of the relay there is CABLE of a second one, at the configuration link.
+CABLE and CONFIG are two named pipes each, CABLE.in towards the switch and CABLE.out back. CHAIN is
+the number of a socket, which leads to the first module. On one cable the number of its way comes
+before each byte: 0 the switch, 1 the modules, 2 switch B. Where the cable ends at slot 0, CONFIG of
+the relay there is CABLE of a second one, at the configuration link.
 """
 
 import os
@@ -21,7 +23,8 @@ from chain import LINK_ENDED, MODULES, SWITCH, SWITCH_B  # noqa: E402
 
 
 def open_cable(name):
-    """The end at the board, in the order in which the other side opens its own: what is read, and what is written."""
+    """The end at the board, in the order in which the other side opens its own: what is read,
+    and what is written."""
     return os.open(f"{name}.in", os.O_RDONLY), os.open(f"{name}.out", os.O_WRONLY)
 
 
@@ -38,10 +41,13 @@ def carry(source, target):
 
 
 def part(cable, ways):
-    """The loop from the cable: each byte goes the way that the byte before it names. Another number isn't taken for one."""
+    """The loop from the cable: each byte goes the way that the byte before it names.
+    Another number isn't taken for one."""
     while way := os.read(cable, 1):
         if way[0] not in ways:
-            sys.exit(f"relay.py: the cable has lost a byte, or has one too many: {way[0]} is no way")
+            sys.exit(
+                f"relay.py: the cable has lost a byte, or has one too many: {way[0]} is no way"
+            )
         os.write(ways[way[0]][1], os.read(cable, 1))
 
 

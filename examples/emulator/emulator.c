@@ -1,7 +1,8 @@
-/* An emulator of three modules, whose memories are an array. The switch that joins their links is a C004, which the library has. It plans a
- * batch, hands the switch the bytes for each setting, has the modules obey their orders, and compares the memories with those that
- * `exchange apply` leaves. Where a word names the program `exchange`, its `drive` sets the switch, through two named pipes in a folder of
- * their own. docs/EMULATORS.md says how to build it. */
+/* An emulator of three modules, whose memories are an array. The switch that joins their links is a
+ * C004, which the library has. It plans a batch, hands the switch the bytes for each setting, has
+ * the modules obey their orders, and compares the memories with those that `exchange apply` leaves.
+ * Where a word names the program `exchange`, its `drive` sets the switch, through two named pipes
+ * in a folder of their own. docs/EMULATORS.md says how to build it. */
 #define _XOPEN_SOURCE 700
 
 #include "exchange.h"
@@ -21,10 +22,11 @@ enum { MODULES = 3, BLOCKS = 2, BYTES = 8, LINKS = 32 };
 static const char shape[] = "3x2x2";
 static const char batch[] = "batch 4\npush 0 0 1 0\npush 0 1 2 0\npull 0 0 1 1\npull 0 1 2 1\n";
 
-static uint8_t memory[MODULES][BLOCKS][BYTES], aside[MODULES][BLOCKS][BYTES], before[MODULES][BLOCKS][BYTES],
-    applied[MODULES][BLOCKS][BYTES];
+static uint8_t memory[MODULES][BLOCKS][BYTES], aside[MODULES][BLOCKS][BYTES],
+    before[MODULES][BLOCKS][BYTES], applied[MODULES][BLOCKS][BYTES];
 
-/* Link 0 of module m is on link m of the switch, and link 3 on link 16 + m. What comes out of each of the switch's links. */
+/* Link 0 of module m is on link m of the switch, and link 3 on link 16 + m.
+ * What comes out of each of the switch's links. */
 static struct exchange_c004 chip;
 static uint8_t wire[LINKS][BYTES];
 
@@ -41,22 +43,26 @@ static void leave(int by)
 }
 
 /* A call that is given a batch and a schedule. */
-typedef uint8_t answer(const uint8_t *, size_t, const uint8_t *, size_t, uint8_t *, size_t, size_t *);
+typedef uint8_t answer(const uint8_t *, size_t, const uint8_t *, size_t, uint8_t *, size_t,
+                       size_t *);
 
-static uint8_t steady_plan(const uint8_t *text, size_t bytes, const uint8_t *none, size_t no_bytes, uint8_t *out, size_t room, size_t *count)
+static uint8_t steady_plan(const uint8_t *text, size_t bytes, const uint8_t *none, size_t no_bytes,
+                           uint8_t *out, size_t room, size_t *count)
 {
     (void)none, (void)no_bytes;
     return exchange_plan_steady(text, bytes, out, room, count);
 }
 
-/* What a call answers, as a text with a zero behind it. A call that finds too little room says how much it wants. */
+/* What a call answers, as a text with a zero behind it.
+ * A call that finds too little room says how much it wants. */
 static char *ask(answer *call, const char *plan)
 {
     for (size_t room = 64, count;; room = count) {
         uint8_t *out = calloc(room + 1, 1);
         if (out == NULL)
             end("no memory");
-        uint8_t status = call((const uint8_t *)batch, strlen(batch), (const uint8_t *)plan, strlen(plan), out, room, &count);
+        uint8_t status = call((const uint8_t *)batch, strlen(batch), (const uint8_t *)plan,
+                              strlen(plan), out, room, &count);
         if (status == EXCHANGE_DONE)
             return (char *)out;
         if (status != EXCHANGE_NO_ROOM)
@@ -65,7 +71,8 @@ static char *ask(answer *call, const char *plan)
     }
 }
 
-/* Hands the switch its bytes. None of them is an enquiry, so no reply is due. Says whether there was more than 03, the end. */
+/* Hands the switch its bytes. None of them is an enquiry, so no reply is due. Says whether there
+ * was more than 03, the end. */
 static int set_switch(char *at)
 {
     int changes = 0;
@@ -105,14 +112,16 @@ static void copy(const char *orders)
             memcpy(aside[m][b], memory[m][b], BYTES);
 }
 
-/* Has each module obey its orders of a setting: all of them send, and then all of them receive. So both links move side by side. */
+/* Has each module obey its orders of a setting: all of them send, and then all of them receive. So
+ * both links move side by side. */
 static void obey(const char *orders, int setting)
 {
     for (int receives = 0; receives <= 1; receives++) {
         int m = 0, k, link, b;
         char verb[8], what[6];
         for (const char *line = orders; *line != 0; line = next_line(line)) {
-            if (sscanf(line, "module %d", &m) == 1 || sscanf(line, "setting %d link %d %7s %5s %d", &k, &link, verb, what, &b) != 5)
+            if (sscanf(line, "module %d", &m) == 1 ||
+                sscanf(line, "setting %d link %d %7s %5s %d", &k, &link, verb, what, &b) != 5)
                 continue;
             int port = link == 0 ? m : 16 + m;
             if (k != setting || receives != (strcmp(verb, "receive") == 0))
@@ -125,7 +134,8 @@ static void obey(const char *orders, int setting)
     }
 }
 
-/* Hands the switch the bytes of each setting, in a line `setting S ..`, and has the modules obey. */
+/* Hands the switch the bytes of each setting, in a line `setting S ..`,
+ * and has the modules obey. */
 static void go(const char *bytes, const char *orders)
 {
     int settings = 0, changes = 0;
@@ -163,17 +173,20 @@ static void clean(void)
     rmdir(folder);
 }
 
-/* Starts `drive`, whose lines come from lines, and which waits for a line from go_on after each setting. */
+/* Starts `drive`, whose lines come from lines, and
+ * which waits for a line from go_on after each setting. */
 static pid_t start_drive(const char *program, int *go_on, int *lines)
 {
     int given[2], told[2];
     pid_t drive;
 
-    must(mkfifo("board.in", 0600) == 0 && mkfifo("board.out", 0600) == 0 && pipe(given) == 0 && pipe(told) == 0);
+    must(mkfifo("board.in", 0600) == 0 && mkfifo("board.out", 0600) == 0 && pipe(given) == 0 &&
+         pipe(told) == 0);
     must((drive = fork()) >= 0);
     if (drive == 0) {
         must(dup2(given[0], 0) == 0 && dup2(told[1], 1) == 1);
-        must(close(given[0]) == 0 && close(given[1]) == 0 && close(told[0]) == 0 && close(told[1]) == 0);
+        must(close(given[0]) == 0 && close(given[1]) == 0 && close(told[0]) == 0 &&
+             close(told[1]) == 0);
         execl(program, program, "drive", "batch", "board", "--schedule", "schedule", NULL);
         _exit(127);
     }
@@ -183,7 +196,8 @@ static pid_t start_drive(const char *program, int *go_on, int *lines)
     return drive;
 }
 
-/* Takes what `drive` sends to the switch, and answers each enquiry at once: whether there was anything. */
+/* Takes what `drive` sends to the switch, and answers each enquiry at once:
+ * whether there was anything. */
 static int take(int in, int out)
 {
     uint8_t sent[256], reply;
@@ -195,7 +209,8 @@ static int take(int in, int out)
     return count > 0;
 }
 
-/* At the other end of `drive`: looks at both of its pipes, since neither may wait for the other. Gives the status with which it ends. */
+/* At the other end of `drive`: looks at both of its pipes, since neither may wait for the other.
+ * Gives the status with which it ends. */
 static int be_driven(const char *program, const char *plan, const char *orders)
 {
     char line[4096] = "";
@@ -211,9 +226,11 @@ static int be_driven(const char *program, const char *plan, const char *orders)
     keep("schedule", plan);
     pid_t drive = start_drive(path, &go_on, &lines);
     FILE *told = fdopen(lines, "r");
-    /* `drive` may end while it is written to. It was started before, so that it doesn't ignore the signal too. */
+    /* `drive` may end while it is written to. It was started before,
+     * so that it doesn't ignore the signal too. */
     signal(SIGPIPE, SIG_IGN);
-    /* Opened to read and to write, neither waits for `drive`, which opens none where it is refused. */
+    /* Opened to read and to write, neither waits for `drive`,
+     * which opens none where it is refused. */
     int in = open("board.in", O_RDWR), out = open("board.out", O_RDWR);
     must(told != NULL && in >= 0 && out >= 0);
     struct pollfd ways[] = {{in, POLLIN, 0}, {lines, POLLIN, 0}};
@@ -221,8 +238,10 @@ static int be_driven(const char *program, const char *plan, const char *orders)
         must(poll(ways, 2, -1) > 0);
         if (ways[0].revents != 0 && !take(in, out))
             ways[0].fd = -1;
-        /* `drive` prints a line, and then waits for one: there is never a second line in the buffer. */
-        if (ways[1].revents != 0 && fgets(line, sizeof line, told) != NULL && sscanf(line, "setting %d", &setting) == 1) {
+        /* `drive` prints a line, and then waits for one:
+         * there is never a second line in the buffer. */
+        if (ways[1].revents != 0 && fgets(line, sizeof line, told) != NULL &&
+            sscanf(line, "setting %d", &setting) == 1) {
             obey(orders, setting);
             must(write(go_on, "\n", 1) == 1 || errno == EPIPE);
         }
@@ -247,7 +266,8 @@ int main(int words, char **word)
     memcpy(before, memory, sizeof memory);
     exchange_c004_reset(&chip);
 
-    char *plan = ask(steady_plan, ""), *bytes = ask(exchange_switch, plan), *orders = ask(exchange_orders, plan);
+    char *plan = ask(steady_plan, ""), *bytes = ask(exchange_switch, plan),
+         *orders = ask(exchange_orders, plan);
     copy(orders);
     int ended = 0;
     if (words > 1)
@@ -264,9 +284,11 @@ int main(int words, char **word)
 
     for (int m = 0; m < MODULES; m++)
         printf("module %d: %.8s %.8s\n", m, (char *)memory[m][0], (char *)memory[m][1]);
-    uint8_t status = exchange_apply((const uint8_t *)shape, strlen(shape), (const uint8_t *)batch, strlen(batch), before[0][0],
-                                    sizeof before, applied[0][0], sizeof applied, &count);
-    int same = status == EXCHANGE_DONE && count == sizeof memory && memcmp(applied, memory, sizeof memory) == 0;
+    uint8_t status =
+        exchange_apply((const uint8_t *)shape, strlen(shape), (const uint8_t *)batch, strlen(batch),
+                       before[0][0], sizeof before, applied[0][0], sizeof applied, &count);
+    int same = status == EXCHANGE_DONE && count == sizeof memory &&
+               memcmp(applied, memory, sizeof memory) == 0;
     puts(same ? "as exchange apply" : "WRONG");
     return same ? EXIT_SUCCESS : EXIT_FAILURE;
 }

@@ -1,10 +1,12 @@
 #!/usr/bin/env python3
-"""An emulator whose modules are threads and whose links are queues. A C004 says which links feed each other: it is set by the bytes of its
-configuration link, and asked after each setting, as a real one.
+"""An emulator whose modules are threads and whose links are queues. A C004 says which links feed
+each other: it is set by the bytes of its configuration link, and asked after each setting, as a
+real one.
 
-Eight modules transpose what they have: block b of module m and block m of module b change places. Each module has its orders, and obeys
-those of a setting once it is told that the setting stands. In the end the memories are compared with those that `apply` leaves. Where a word
-names the program `exchange`, its `drive` sets the switch, over two named pipes. docs/EMULATORS.md says how to run it.
+Eight modules transpose what they have: block b of module m and block m of module b change places.
+Each module has its orders, and obeys those of a setting once it is told that the setting stands. In
+the end the memories are compared with those that `apply` leaves. Where a word names the program
+`exchange`, its `drive` sets the switch, over two named pipes. docs/EMULATORS.md says how to run it.
 """
 
 import contextlib
@@ -23,40 +25,57 @@ import exchange
 
 MODULES, BYTES = 8, 8
 
-# The switch, and for each of its links what comes to the module that is on it. Link 0 of module m is on link m, and link 3 on link 16 + m.
+# The switch, and for each of its links what comes to the module that is on it. Link 0 of module m
+# is on link m, and link 3 on link 16 + m.
 switch = exchange.C004()
 links = [queue.Queue() for _ in range(32)]
 
 
 def send(link, block):
-    """Sends a block from a module's link into the switch. It comes out wherever that input feeds an output."""
+    """Sends a block from a module's link into the switch.
+    It comes out wherever that input feeds an output."""
     for output, queued in enumerate(links):
         if switch.source(output) == link:
             queued.put(block)
 
 
 class Module(threading.Thread):
-    """A module with its blocks. It obeys its orders of each setting that stands, and then says so."""
+    """A module with its blocks. It obeys its orders of each setting that stands,
+    and then says so."""
 
     def __init__(self, number, blocks):
         super().__init__(daemon=True)
-        self.number, self.blocks, self.orders, self.told, self.done = number, blocks, None, queue.Queue(), queue.Queue()
+        self.number, self.blocks, self.orders, self.told, self.done = (
+            number,
+            blocks,
+            None,
+            queue.Queue(),
+            queue.Queue(),
+        )
 
     def run(self):
         aside = {block: self.blocks[block] for block in self.orders.copies}
         for setting in iter(self.told.get, None):
             # It sends before it receives, since nobody who sends into a queue has to wait.
-            for order in sorted(self.orders.settings[setting], key=lambda order: order.act == "receive block"):
+            for order in sorted(
+                self.orders.settings[setting], key=lambda order: order.act == "receive block"
+            ):
                 link = self.number if order.link == 0 else 16 + self.number
                 if order.act == "receive block":
                     self.blocks[order.block] = links[link].get()
                 else:
-                    send(link, aside[order.block] if order.act == "send copy" else self.blocks[order.block])
+                    send(
+                        link,
+                        aside[order.block]
+                        if order.act == "send copy"
+                        else self.blocks[order.block],
+                    )
             self.done.put(True)
 
 
 def stands(setting):
-    """Whether the switch answers for each output of a setting that the other end's input feeds it."""
+    """Whether the switch answers for each output of a setting
+    that the other end's input feeds it."""
     pairs = [(t.initiator, 16 + t.responder) for t in setting]
     asked = [(output, given) for pair in pairs for output, given in (pair, pair[::-1])]
     return all(switch.take(bytes([2, output])) == bytes([0x80 + given]) for output, given in asked)
@@ -71,22 +90,32 @@ def set_here():
 
 
 def set_by(program):
-    """Has `drive` set the switch: the number of each setting that it reports. The blocks have moved once the next number is asked for."""
+    """Has `drive` set the switch: the number of each setting that it reports. The blocks have moved
+    once the next number is asked for."""
     if not shutil.which(program):
         sys.exit(f"there is no program {program}")
     with tempfile.TemporaryDirectory() as folder:
-        files = {name: Path(folder, name) for name in ("batch", "schedule", "board", "board.in", "board.out")}
+        files = {
+            name: Path(folder, name)
+            for name in ("batch", "schedule", "board", "board.in", "board.out")
+        }
         files["batch"].write_text(batch)
         files["schedule"].write_text(plan)
         os.mkfifo(files["board.in"])
         os.mkfifo(files["board.out"])
         words = [program, "drive", files["batch"], files["board"], "--schedule", files["schedule"]]
         # Without a buffer no line is hidden from `select`, and no line feed is kept back.
-        with subprocess.Popen(words, stdin=subprocess.PIPE, stdout=subprocess.PIPE, bufsize=0) as drive:
+        with subprocess.Popen(
+            words, stdin=subprocess.PIPE, stdout=subprocess.PIPE, bufsize=0
+        ) as drive:
             # So that it ends too, and no folder is left.
             signal.signal(signal.SIGTERM, lambda *_: (drive.kill(), sys.exit(128 + signal.SIGTERM)))
-            # Opened to read and to write, neither waits for `drive`, which opens none where it is refused.
-            sent, replies = os.open(files["board.in"], os.O_RDWR), os.open(files["board.out"], os.O_RDWR)
+            # Opened to read and to write, neither waits for `drive`,
+            # which opens none where it is refused.
+            sent, replies = (
+                os.open(files["board.in"], os.O_RDWR),
+                os.open(files["board.out"], os.O_RDWR),
+            )
             while True:
                 select.select([sent, drive.stdout], [], [])
                 # Bytes that are there came before the line, though it may be seen first.
@@ -110,7 +139,9 @@ def set_by(program):
 
 modules = [Module(m, [bytes([16 * m + b]) * BYTES for b in range(MODULES)]) for m in range(MODULES)]
 image = b"".join(block for module in modules for block in module.blocks)
-transfers = [exchange.Transfer("push", m, b, b, m) for m in range(MODULES) for b in range(MODULES) if b != m]
+transfers = [
+    exchange.Transfer("push", m, b, b, m) for m in range(MODULES) for b in range(MODULES) if b != m
+]
 batch = exchange.batch_text(transfers)
 plan = exchange.plan(batch, steady=True)
 

@@ -1,8 +1,10 @@
 #!/usr/bin/env bash
-# Makes the patterns' files: the batches and the moves by the rules below, the batches of moves, the plans and the pictures by the program.
+# Makes the patterns' files: the batches and the moves by the rules below, the batches of moves, the
+# plans and the pictures by the program.
 #
 #     make.sh          makes all of them anew, where they stand
-#     make.sh --check  makes them in a folder of its own, and tells which of those that stand are others
+#     make.sh --check  makes them in a folder of its own, and tells which of those that stand are
+#                      others
 #
 # The status is 1 where one that stands is another than the one that was made.
 set -euo pipefail
@@ -11,7 +13,8 @@ here=$(dirname "$(readlink -f "${BASH_SOURCE[0]}")")
 examples=$(dirname "$here")
 exchange=$(dirname "$examples")/exchange
 
-# Each of 16 modules sends its block r to each other module r, where it falls upon block 16 + its own number.
+# Each of 16 modules sends its block r to each other module r,
+# where it falls upon block 16 + its own number.
 all_to_all() {
     local i r
     for ((i = 0; i < 16; i++)); do
@@ -21,8 +24,8 @@ all_to_all() {
     done
 }
 
-# Each of 4 modules sends three blocks to each other module: to module r its blocks from 3r on, where they fall upon those from
-# 12 + three times its own number on.
+# Each of 4 modules sends three blocks to each other module: to module r its blocks from 3r on,
+# where they fall upon those from 12 + three times its own number on.
 three_blocks() {
     local i r b
     for ((i = 0; i < 4; i++)); do
@@ -34,7 +37,8 @@ three_blocks() {
     done
 }
 
-# Block j of module i is the square in row i and column j of a matrix; it changes places with block i of module j.
+# Block j of module i is the square in row i and column j of a matrix;
+# it changes places with block i of module j.
 transposition() {
     local i j
     for ((i = 0; i < 8; i++)); do
@@ -52,7 +56,8 @@ ring_shift() {
     done
 }
 
-# Block s of each of 16 modules changes places with that of the module whose number differs in bit s.
+# Block s of each of 16 modules changes places with
+# that of the module whose number differs in bit s.
 butterfly() {
     local s m
     for ((s = 0; s < 4; s++)); do
@@ -62,8 +67,9 @@ butterfly() {
     done
 }
 
-# Module 4y + x stands in row y and column x of a grid. Blocks 0 to 3 are its upper, right, lower and left border,
-# and blocks 4 to 7 those of its neighbours above, to the right, below and to the left.
+# Module 4y + x stands in row y and column x of a grid. Blocks 0 to 3 are its upper, right, lower
+# and left border, and blocks 4 to 7 those of its neighbours above, to the right, below and to the
+# left.
 halo() {
     local m
     for ((m = 0; m < 16; m++)); do
@@ -74,7 +80,8 @@ halo() {
     done
 }
 
-# Stage s of a broadcast to 16 modules, from 1: each module that has the block sends it to one that hasn't.
+# Stage s of a broadcast to 16 modules, from 1: each module
+# that has the block sends it to one that hasn't.
 broadcast() {
     local m have=$((1 << ($1 - 1)))
     for ((m = 0; m < have; m++)); do
@@ -90,7 +97,8 @@ gather_by_pushes() {
     done
 }
 
-# Moves of a block from each of 15 modules to module 0, and the other way round: nobody says which end starts.
+# Moves of a block from each of 15 modules to module 0, and the other way round:
+# nobody says which end starts.
 gather_moves() {
     local m
     for ((m = 1; m < 16; m++)); do
@@ -117,7 +125,8 @@ broadcast_session() {
     echo "bye"
 }
 
-# Makes a text of the lines that a command prints, which its first line counts: counted HEAD FILE COMMAND..
+# Makes a text of the lines that a command prints, which its first line counts:
+# counted HEAD FILE COMMAND..
 counted() {
     local head=$1 file=$2 lines
     shift 2
@@ -165,7 +174,8 @@ make_all() {
         pattern "broadcast-$s.txt" broadcast "$s"
     done
     broadcast_session >broadcast.session.txt
-    for name in three-blocks transposition ring-shift butterfly halo gather-by-pushes gather scatter broadcast-{1,2,3,4}; do
+    for name in three-blocks transposition ring-shift butterfly halo gather-by-pushes gather \
+        scatter broadcast-{1,2,3,4}; do
         draw "$name"
     done
     draw_steady three-blocks
@@ -182,7 +192,8 @@ case ${1-} in
     rm "$room"/examples/{three-transfers.{plan.txt,svg},all-to-all.*,patterns/*.txt,patterns/*.svg}
     (make_all "$room/examples")
     diff -rq "$examples" "$room/examples"
-    echo "make.sh: $(find "$room/examples" -name '*.svg' -o -name '*.txt' | wc -l) files are as they are made"
+    echo "make.sh: $(find "$room/examples" -name '*.svg' -o -name '*.txt' | wc -l)" \
+        "files are as they are made"
     ;;
 *)
     echo "make.sh: one word at most, --check" >&2

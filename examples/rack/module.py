@@ -3,9 +3,10 @@
 
     module.py [--in-turn] MODULE SHAPE BATCH SCHEDULE LINK0 LINK3 LINK1 [LINK2]
 
-Its links are sockets, by their numbers. Over link 1 comes the number of each setting, once the switch is set. The module hands it on over
-link 2 and does its orders. Once all modules after it are done too, it gives the number back. ../board/chain.py says which other numbers there
-are: by them it tells of its tables, gets its words, and gives them back. rack.py starts it.
+Its links are sockets, by their numbers. Over link 1 comes the number of each setting, once the
+switch is set. The module hands it on over link 2 and does its orders. Once all modules after it are
+done too, it gives the number back. ../board/chain.py says which other numbers there are: by them it
+tells of its tables, gets its words, and gives them back. rack.py starts it.
 """
 
 import os
@@ -19,7 +20,18 @@ import exchange
 sys.dont_write_bytecode = True
 sys.path.append(os.path.join(os.path.dirname(os.path.dirname(os.path.realpath(__file__))), "board"))
 
-from chain import END, FILL, LINK_ENDED, READ, TABLES, TOLD, WAIT, numbers, orders_sum, sent  # noqa: E402
+from chain import (
+    END,
+    FILL,
+    LINK_ENDED,
+    READ,
+    TABLES,
+    TOLD,
+    WAIT,
+    numbers,
+    orders_sum,
+    sent,
+)  # noqa: E402
 
 ACKNOWLEDGE = b"\0"
 
@@ -40,14 +52,17 @@ class Module:
 
     def fill(self, image):
         """Takes words for all its blocks, and copies those aside that it has to."""
-        self.memory = [image[start : start + self.size] for start in range(0, len(image), self.size)]
+        self.memory = [
+            image[start : start + self.size] for start in range(0, len(image), self.size)
+        ]
         self.aside = {block: self.memory[block] for block in self.copies}
 
     def orders(self, number):
         return self.settings[number] if 0 <= number < len(self.settings) else []
 
     def obey(self, order):
-        """Moves the words of one order. Whoever sends waits until the other end has taken them, as on a real link."""
+        """Moves the words of one order. Whoever sends waits until the other end has taken them,
+        as on a real link."""
         number, act, block = order
         link = self.links[number]
         if act == "receive block":
@@ -99,7 +114,9 @@ def main():
     number, shape, batch, schedule = int(words[0]), words[1], *map(read, words[2:4])
     zero, three, head, *tail = [socket.socket(fileno=int(word)) for word in words[4:]]
     # A module without orders isn't told.
-    orders = exchange.orders(batch, schedule, number) or [(number, [], [[] for _ in exchange.settings(schedule)])]
+    orders = exchange.orders(batch, schedule, number) or [
+        (number, [], [[] for _ in exchange.settings(schedule)])
+    ]
     module = Module(shape, orders[0][1:], {0: zero, 3: three})
     with ThreadPoolExecutor(1 if "--in-turn" in sys.argv else 2) as at_once:
         obey_all(module, head, tail[0] if tail else None, at_once)

@@ -1,16 +1,20 @@
 #!/usr/bin/env python3
-"""A rack of processes, which is a board without a board: a switch, a relay, and a process for each module. Over a cable examples/board/host.py
-has its switch set, and tells the modules which setting stands.
+"""A rack of processes, which is a board without a board: a switch, a relay, and a process for each
+module. Over a cable examples/board/host.py has its switch set, and tells the modules which setting
+stands.
 
-    rack.py SHAPE BATCH [--steady | --schedule FILE] [--wiring FILE] [--cable CABLE] [--slot-0] [--modules FOLDER] [--relay FILE]
-            [--in-turn] [OPTION OF host.py]..
+    rack.py SHAPE BATCH [--steady | --schedule FILE] [--wiring FILE] [--cable CABLE] [--slot-0]
+            [--modules FOLDER] [--relay FILE] [--in-turn] [OPTION OF host.py]..
 
-Without an option all go by the plan, and this program starts host.py too, with the options that are its own, as --image. With --cable you
-start it: CABLE.in and CABLE.out are named pipes. The words of all modules are 0 at first. A line on standard error has the number of each
-process. Where one fails, or is killed, the rack says which, and ends all. A rack of more than 16 modules has two switches.
-With --slot-0 the cable ends at slot 0, whose relay parts the bytes, and a second relay passes those of the switch on. With --modules the
-program of module M is FOLDER/M, and with --relay that of the relay is FILE: they have the links of module.py and relay.py. With --in-turn
-each module does what it is told for link 0, and then what it is told for link 3: that hangs in a ring. docs/BOARD.md says how to run it.
+Without an option all go by the plan, and this program starts host.py too, with the options that are
+its own, as --image. With --cable you start it: CABLE.in and CABLE.out are named pipes. The words of
+all modules are 0 at first. A line on standard error has the number of each process. Where one
+fails, or is killed, the rack says which, and ends all. A rack of more than 16 modules has two
+switches. With --slot-0 the cable ends at slot 0, whose relay parts the bytes, and a second relay
+passes those of the switch on. With --modules the program of module M is FOLDER/M, and with --relay
+that of the relay is FILE: they have the links of module.py and relay.py. With --in-turn each module
+does what it is told for link 0, and then what it is told for link 3: that hangs in a ring.
+docs/BOARD.md says how to run it.
 """
 
 import argparse
@@ -29,7 +33,10 @@ import time
 try:
     import exchange
 except ImportError:
-    sys.exit("rack.py: Python has no module exchange: ./exchange install PREFIX puts it there, and docs/BOARD.md says how")
+    sys.exit(
+        "rack.py: Python has no module exchange: ./exchange install PREFIX puts it there, "
+        "and docs/BOARD.md says how"
+    )
 
 # Nothing is left in the folder of the examples.
 sys.dont_write_bytecode = True
@@ -41,7 +48,8 @@ from chain import LINK_ENDED, ON_ONE_SWITCH  # noqa: E402
 
 HOST = "host.py"
 
-# Seconds that a host has to end in, once its cable or the modules have ended, and a process that others miss.
+# Seconds that a host has to end in, once its cable or the modules have ended,
+# and a process that others miss.
 PATIENCE = 10
 
 
@@ -67,7 +75,9 @@ class Rack:
     def start(self, name, *words, links=()):
         """Starts a program, whose last words are the numbers of its links."""
         numbers = [link.fileno() for link in links]
-        process = self.started[name] = subprocess.Popen([*words, *map(str, numbers)], stdin=subprocess.DEVNULL, pass_fds=numbers)
+        process = self.started[name] = subprocess.Popen(
+            [*words, *map(str, numbers)], stdin=subprocess.DEVNULL, pass_fds=numbers
+        )
         threading.Thread(target=self.follow, args=(name, process), daemon=True).start()
 
     def follow(self, name, process):
@@ -76,19 +86,37 @@ class Rack:
         self.ended.put(name)
 
     def start_all(self, cable, ports, module, wiring, given):
-        """Starts the switch, the modules and the relays. Each link is a pair of sockets. Links 1 and 2 make a chain, from the relay on."""
+        """Starts the switch, the modules and the relays. Each link is a pair of sockets. Links 1
+        and 2 make a chain, from the relay on."""
         links = [[socket.socketpair() for _ in (0, 3)] for _ in range(self.count)]
         chain = [socket.socketpair() for _ in range(self.count)]
-        self.start("switch.py", sys.executable, f"{HERE}/switch.py", *wiring, *ports, links=[far for pairs in links for _, far in pairs])
+        self.start(
+            "switch.py",
+            sys.executable,
+            f"{HERE}/switch.py",
+            *wiring,
+            *ports,
+            links=[far for pairs in links for _, far in pairs],
+        )
         for m, pairs in enumerate(links):
-            own = [near for near, _ in pairs] + [chain[m][1]] + [near for near, _ in chain[m + 1 : m + 2]]
+            own = (
+                [near for near, _ in pairs]
+                + [chain[m][1]]
+                + [near for near, _ in chain[m + 1 : m + 2]]
+            )
             self.start(f"module {m}", *module(m), links=own)
-        ways = [self.pipes(f"slot-{number}") for number in range(len(ports))] if given.slot_0 else []
-        relay = [os.path.abspath(given.relay)] if given.relay else [sys.executable, f"{BOARD}/relay.py"]
+        ways = (
+            [self.pipes(f"slot-{number}") for number in range(len(ports))] if given.slot_0 else []
+        )
+        relay = (
+            [os.path.abspath(given.relay)] if given.relay else [sys.executable, f"{BOARD}/relay.py"]
+        )
         self.start("relay.py", *relay, cable, *(ways or ports), links=[chain[0][0]])
         for number, (way, port) in enumerate(zip(ways, ports)):
             self.start(f"relay.py {number}", sys.executable, f"{BOARD}/relay.py", way, port)
-        for end in (end for pair in [*chain, *(pair for pairs in links for pair in pairs)] for end in pair):
+        for end in (
+            end for pair in [*chain, *(pair for pairs in links for pair in pairs)] for end in pair
+        ):
             end.close()
 
     def pipes(self, name):
@@ -102,7 +130,8 @@ class Rack:
         return ", ".join(f"{name} {process.pid}" for name, process in self.started.items())
 
     def wait(self):
-        """Waits until all modules have ended, and the host, if it is one of these: what to say of a process that fails before, if one does."""
+        """Waits until all modules have ended, and the host, if it is one of these: what to say of a
+        process that fails before, if one does."""
         running = {name for name in self.started if name.startswith("module ") or name == HOST}
         while running:
             name = self.ended.get()
@@ -113,15 +142,22 @@ class Rack:
         return None
 
     def fault(self, name):
-        """What to say of a process that has failed: of one that was killed, or failed by itself, where this one ended since it misses that."""
+        """What to say of a process that has failed: of one that was killed, or failed by itself,
+        where this one ended since it misses that."""
         status = {name: self.started[name].returncode}
         with contextlib.suppress(queue.Empty):
             while True:
                 is_found = set(status.values()) - {0, LINK_ENDED}
                 name = self.ended.get(timeout=0.2 if is_found else PATIENCE)
                 status[name] = self.started[name].returncode
-        name = min(status, key=lambda it: (status[it] >= 0, status[it] in (0, LINK_ENDED), it == HOST))
-        how = f"was killed by {signal.Signals(-status[name]).name}" if status[name] < 0 else f"has ended with status {status[name]}"
+        name = min(
+            status, key=lambda it: (status[it] >= 0, status[it] in (0, LINK_ENDED), it == HOST)
+        )
+        how = (
+            f"was killed by {signal.Signals(-status[name]).name}"
+            if status[name] < 0
+            else f"has ended with status {status[name]}"
+        )
         return f"{name} {how}"
 
     def stop(self, cable):
@@ -139,7 +175,8 @@ class Rack:
 
 
 def wait_for_host(cable):
-    """Waits until no host has the cable: what the modules said last may still be on its way there."""
+    """Waits until no host has the cable: what the modules said last may still be
+    on its way there."""
     until = time.monotonic() + PATIENCE
     while time.monotonic() < until:
         with contextlib.suppress(BlockingIOError):
@@ -160,13 +197,19 @@ def size_of(shape, batch):
 def prepare(given, batch, wiring):
     """The text of the schedule that was asked for, and what the rack may be refused for."""
     exchange.apply(given.shape, batch, bytes(size_of(given.shape, batch)))
-    schedule = read(given.schedule) if given.schedule else exchange.plan(batch, steady=given.steady).encode()
+    schedule = (
+        read(given.schedule)
+        if given.schedule
+        else exchange.plan(batch, steady=given.steady).encode()
+    )
     exchange.switch_bytes(batch, schedule, wiring)
     return schedule
 
 
 def words_of(arguments):
-    words = argparse.ArgumentParser(usage=" ".join(__doc__.split("\n\n")[1].split()), allow_abbrev=False)
+    words = argparse.ArgumentParser(
+        usage=" ".join(__doc__.split("\n\n")[1].split()), allow_abbrev=False
+    )
     for name in "shape", "batch":
         words.add_argument(name)
     for name in "--schedule", "--wiring", "--cable", "--modules", "--relay":
@@ -185,7 +228,11 @@ def main():
     try:
         schedule = prepare(given, batch, wiring)
     except exchange.Refused as refused:
-        names = {"batch": given.batch, "schedule": given.schedule or "", "wiring": given.wiring or ""}
+        names = {
+            "batch": given.batch,
+            "schedule": given.schedule or "",
+            "wiring": given.wiring or "",
+        }
         sys.exit("\n".join([refused.line, refused.named(**names)]))
     count = int(given.shape.split("x")[0])
     if wiring and count > ON_ONE_SWITCH:
@@ -202,7 +249,14 @@ def main():
         def module(m):
             if given.modules:
                 return [f"{os.path.abspath(given.modules)}/{m}"]
-            return [sys.executable, f"{HERE}/module.py", *(["--in-turn"] if given.in_turn else []), str(m), given.shape, *texts]
+            return [
+                sys.executable,
+                f"{HERE}/module.py",
+                *(["--in-turn"] if given.in_turn else []),
+                str(m),
+                given.shape,
+                *texts,
+            ]
 
         try:
             rack.start_all(cable, ports, module, wired, given)

@@ -1,12 +1,13 @@
 #!/usr/bin/env python3
-"""The switch of a rack: a C004 that is set over its configuration link, and carries what comes over a module's link to wherever that link
-feeds an output as it stands.
+"""The switch of a rack: a C004 that is set over its configuration link, and carries what comes over
+a module's link to wherever that link feeds an output as it stands.
 
     switch.py [--wiring FILE] PORT [PORT] LINK..
 
-The configuration link of a port is two named pipes, PORT.in and PORT.out. Two ports are those of the switches A and B of a rack with more
-than 16 modules. The links are sockets, by their numbers: those of link 0 and of link 3 of module 0, then of module 1, and so on. The wiring
-says which links of the switch they are on. rack.py starts this program, which ends when nobody sets it any more.
+The configuration link of a port is two named pipes, PORT.in and PORT.out. Two ports are those of
+the switches A and B of a rack with more than 16 modules. The links are sockets, by their numbers:
+those of link 0 and of link 3 of module 0, then of module 1, and so on. The wiring says which links
+of the switch they are on. rack.py starts this program, which ends when nobody sets it any more.
 """
 
 import argparse
@@ -43,8 +44,13 @@ class Chip:
         return bool(sent)
 
     def fed_by(self, given):
-        """The outputs that an input feeds; None is no input. While commands connect, none lets data pass: the last byte of the state says so."""
-        return [] if given is None or self.switch.state[-1] else [output for output in range(32) if self.switch.source(output) == given]
+        """The outputs that an input feeds; None is no input. While commands connect, none lets data
+        pass: the last byte of the state says so."""
+        return (
+            []
+            if given is None or self.switch.state[-1]
+            else [output for output in range(32) if self.switch.source(output) == given]
+        )
 
 
 class Wires:
@@ -67,7 +73,11 @@ class Wires:
     def carry(self, link, words):
         """Carries what a module sends over its link."""
         chip, given = self.inputs[link]
-        far = [self.outputs[chip, output] for output in chip.fed_by(given) if (chip, output) in self.outputs]
+        far = [
+            self.outputs[chip, output]
+            for output in chip.fed_by(given)
+            if (chip, output) in self.outputs
+        ]
         if not far:
             sys.exit(f"switch.py: words come over {self.names[link]}, which isn't joined; {HINT}")
         for other in far:
@@ -75,11 +85,14 @@ class Wires:
 
 
 def read_wiring(path):
-    """The links of the switch that modules are on, by the module's number, and by 0 for its link 0 and 1 for its link 3."""
+    """The links of the switch that modules are on, by the module's number,
+    and by 0 for its link 0 and 1 for its link 3."""
     with open(path, encoding="utf-8") as file:
         text = file.read()
     found = re.findall(r"module (\d+) link 0 (?:at (\d+)|none) link 3 (?:at (\d+)|none)", text)
-    return {(int(module), end): int(at) for module, *ends in found for end, at in enumerate(ends) if at}
+    return {
+        (int(module), end): int(at) for module, *ends in found for end, at in enumerate(ends) if at
+    }
 
 
 def main():
@@ -93,7 +106,8 @@ def main():
     setting = {chip.read: chip for chip in chips}
     while setting:
         ready = select.select([*setting, *links], [], [])[0]
-        # What sets the switch came before the words that go through it, though it may be seen after them.
+        # What sets the switch came before the words that go through it,
+        # though it may be seen after them.
         for read in select.select([*setting], [], [], 0)[0]:
             if not setting[read].take():
                 del setting[read]

@@ -1,9 +1,11 @@
 #!/usr/bin/env python3
 """Spoilt texts through the calls for programs in C, byte for byte against the built program.
 
-    calls.py TRY [COUNT]        COUNT texts in all, 4000 where it isn't said, through the built program tools/c/try.c
+    calls.py TRY [COUNT]        COUNT texts in all, 4000 where it isn't said, through the built
+                                program tools/c/try.c
     calls.py TRY --examples     the examples, each growth of memory refused in turn
-    calls.py TRY --stack        the largest texts, each call on a thread with as much stack as docs/EMULATORS.md says
+    calls.py TRY --stack        the largest texts, each call on a thread with as much stack as
+                                docs/EMULATORS.md says
 """
 
 import itertools
@@ -39,20 +41,41 @@ CALLS = {
     "apply": ["shape", "batch", "image"],
 }
 
-# The numbers by which a call knows them that tells why they refuse their texts, and all other calls.
-NUMBERS = {"plan": 0, "plan_steady": 0, "check": 1, "switch": 2, "apply": 3, "draw": 4, "changes": 5, "direct": 6, "switch_wired": 7, "orders": 8}
+# The numbers by which a call knows them that tells why they refuse their texts,
+# and all other calls.
+NUMBERS = {
+    "plan": 0,
+    "plan_steady": 0,
+    "check": 1,
+    "switch": 2,
+    "apply": 3,
+    "draw": 4,
+    "changes": 5,
+    "direct": 6,
+    "switch_wired": 7,
+    "orders": 8,
+}
 OTHERS = ["why", "c004_reset", "c004_take", "c004_source", "c004_joined", "boot_reset", "boot_take"]
 
 
 def words_of(name, given):
-    """The words of the command that is to answer as a call does. Each text is in a file of its name, but that of a shape, which is a word
-    itself. To the calls of `switch` and `orders` an empty text of a schedule is none. What `changes` answers stands in the title of a picture."""
-    words = [os.fsdecode(text) if file == "shape" else file for file, text in zip(CALLS[name], given)]
+    """The words of the command that is to answer as a call does. Each text is in a file of its
+    name, but that of a shape, which is a word itself. To the calls of `switch` and `orders` an
+    empty text of a schedule is none. What `changes` answers stands in the title of a picture.
+    """
+    words = [
+        os.fsdecode(text) if file == "shape" else file for file, text in zip(CALLS[name], given)
+    ]
     if name == "plan_steady":
         return ["plan", *words, "--steady"]
     if name in ("switch", "switch_wired", "orders"):
         schedule = ["--schedule", "schedule"] if given[1] else []
-        return [name.partition("_")[0], "batch", *schedule, *(["--wiring", "wiring"] if name == "switch_wired" else [])]
+        return [
+            name.partition("_")[0],
+            "batch",
+            *schedule,
+            *(["--wiring", "wiring"] if name == "switch_wired" else []),
+        ]
     # A shape may begin as an option does.
     return ["draw" if name == "changes" else name, "--", *words]
 
@@ -61,8 +84,13 @@ def told(name, program):
     """What a call is to answer where the program answers this."""
     if name != "changes" or program.status:
         return program.out
-    changes, words = re.search(rb"<title>.*, changes ([0-9]+), (.*), busiest ", program.out).groups()
-    return b"changes %s least %s\n" % (changes, words.removeprefix(b"at least ") if words.startswith(b"at") else changes)
+    changes, words = re.search(
+        rb"<title>.*, changes ([0-9]+), (.*), busiest ", program.out
+    ).groups()
+    return b"changes %s least %s\n" % (
+        changes,
+        words.removeprefix(b"at least ") if words.startswith(b"at") else changes,
+    )
 
 
 def texts_for(draw, name):
@@ -82,9 +110,17 @@ def texts_for(draw, name):
     most = draw.choice([0, 3, 10, 40])
     if name == "switch_wired":
         board = spoil.wiring(draw)
-        shape = (max(plain.read_wiring(board)) + draw.choice([1, 1, 1, 2]), plain.BLOCKS, plain.WORDS)
+        shape = (
+            max(plain.read_wiring(board)) + draw.choice([1, 1, 1, 2]),
+            plain.BLOCKS,
+            plain.WORDS,
+        )
         batch, schedule = texts.spoilt_schedule(draw, shape, most, plain.busiest)
-        return [batch, schedule if draw.random() < 0.6 else b"", spoil.spoil(draw, board) if draw.random() < 0.4 else board]
+        return [
+            batch,
+            schedule if draw.random() < 0.6 else b"",
+            spoil.spoil(draw, board) if draw.random() < 0.4 else board,
+        ]
     shape = (draw.choice([1, 2, 3, 8, 16, 17, plain.MODULES]), plain.BLOCKS, plain.WORDS)
     if name in ("check", "draw", "changes") or name in ("switch", "orders") and draw.random() < 0.7:
         return list(texts.spoilt_schedule(draw, shape, most, plain.busiest))
@@ -97,7 +133,9 @@ class Calls:
     """The program in C that makes the calls, kept open."""
 
     def __init__(self, path, *words):
-        self.process = subprocess.Popen([path, *words], stdin=subprocess.PIPE, stdout=subprocess.PIPE)
+        self.process = subprocess.Popen(
+            [path, *words], stdin=subprocess.PIPE, stdout=subprocess.PIPE
+        )
 
     def ask(self, name, given):
         sizes = " ".join(str(len(text)) for text in given)
@@ -109,8 +147,13 @@ class Calls:
         return int(line[0]), self.process.stdout.read(int(line[1]))
 
     def why(self, name, given):
-        """What is told beside the refusal of these texts. Their names are those that it gives them where it is told none. A shape has an empty one."""
-        names = "\n".join("" if file == "shape" else file for file in CALLS[name]).encode() if len(given[0]) % 2 else b""
+        """What is told beside the refusal of these texts. Their names are those that it gives them
+        where it is told none. A shape has an empty one."""
+        names = (
+            "\n".join("" if file == "shape" else file for file in CALLS[name]).encode()
+            if len(given[0]) % 2
+            else b""
+        )
         return self.ask(f"why{NUMBERS[name]}", [*(given + [b"x", b""])[:3], names])
 
     def end(self):
@@ -119,7 +162,8 @@ class Calls:
 
 
 def beside(name, given, program):
-    """What the program tells beside an answer, and no call does: that two transfers of a batch to plan, or for the switch, write one block."""
+    """What the program tells beside an answer, and no call does: that two transfers of a batch to
+    plan, or for the switch, write one block."""
     is_told = name.startswith(("plan", "switch")) and program.status == 0
     return notes.overlapping(notes.Asked("batch", ("batch", given[0]))) if is_told else b""
 
@@ -132,7 +176,12 @@ def is_same(calls, name, given):
         with open(file, "wb") as out:
             out.write(text)
     program = ask(*words_of(name, given))
-    return (status, answer, why[0], why[1] + beside(name, given, program)) == (program.status, told(name, program), 0, program.err)
+    return (status, answer, why[0], why[1] + beside(name, given, program)) == (
+        program.status,
+        told(name, program),
+        0,
+        program.err,
+    )
 
 
 def try_some(path, first, count):
@@ -146,7 +195,10 @@ def try_some(path, first, count):
             draw = random.Random(f"c {number}")
             given = texts_for(draw, name)
             if not is_same(calls, name, given):
-                print(f"calls: WRONG at text {number}: {name} {[text[:400] for text in given]}", file=sys.stderr)
+                print(
+                    f"calls: WRONG at text {number}: {name} {[text[:400] for text in given]}",
+                    file=sys.stderr,
+                )
                 break
             well += 1
         ended = calls.end()
@@ -162,15 +214,31 @@ def read(name):
 def examples():
     """A call of each kind, and its texts, of examples."""
     batch, schedule = read("three-transfers.txt"), read("three-transfers.plan.txt")
-    board = b"wiring 3\nmodule 0 link 0 at 3 link 3 at 4\nmodule 1 link 0 at 5 link 3 at 6\nmodule 2 link 0 at 7 link 3 at 8\n"
-    asked = [(name, [batch, schedule, board][: len(files)]) for name, files in CALLS.items() if name != "direct"]
+    board = (
+        b"wiring 3\nmodule 0 link 0 at 3 link 3 at 4\nmodule 1 link 0 at 5 link 3 at 6\n"
+        b"module 2 link 0 at 7 link 3 at 8\n"
+    )
+    asked = [
+        (name, [batch, schedule, board][: len(files)])
+        for name, files in CALLS.items()
+        if name != "direct"
+    ]
     asked[-1] = ("apply", [b"3x2x2", read("two-pushes.txt"), read("before.img")])
-    asked += [("direct", [read("patterns/gather.moves.txt")]), ("plan", [b"batch 1\n"]), ("switch", [batch, b""]), ("orders", [batch, b""])]
+    asked += [
+        ("direct", [read("patterns/gather.moves.txt")]),
+        ("plan", [b"batch 1\n"]),
+        ("switch", [batch, b""]),
+        ("orders", [batch, b""]),
+    ]
     asked += [(name, [read("all-to-all.txt")]) for name in ("plan", "plan_steady")]
     # Beside these refusals of a certificate it is told what is known of the settings.
     settings = schedule.partition(b"busiest")[0]
-    named = [settings + b"busiest link 0 module 0\nnamed %s\n" % it for it in (b"0 2", b"0 0", b"0")]
-    return asked + [("check", [batch, it]) for it in (settings, *named, settings.replace(b" 2\n", b" 0\n"))]
+    named = [
+        settings + b"busiest link 0 module 0\nnamed %s\n" % it for it in (b"0 2", b"0 0", b"0")
+    ]
+    return asked + [
+        ("check", [batch, it]) for it in (settings, *named, settings.replace(b" 2\n", b" 0\n"))
+    ]
 
 
 def planned(batch, *options):
@@ -182,7 +250,8 @@ def planned(batch, *options):
 
 
 def largest():
-    """Calls of as many transfers as there may be, by plans and by a schedule that was planned for none, and of the largest rack."""
+    """Calls of as many transfers as there may be, by plans and by a schedule that was planned for
+    none, and of the largest rack."""
     draw, shape = random.Random("largest"), (plain.MODULES, plain.BLOCKS, plain.WORDS)
     places = [(module, block) for module in range(shape[0]) for block in range(shape[1])]
     pairs = zip(draw.sample(places * 2, plain.TRANSFERS), places * 2)
@@ -194,7 +263,10 @@ def largest():
         yield from ((name, [text]) for name in ("plan", "plan_steady"))
         for options in [], ["--steady"]:
             schedule = planned(text, *options)
-            yield from ((name, [text, schedule]) for name in ("switch", "orders", "check", "draw", "changes"))
+            yield from (
+                (name, [text, schedule])
+                for name in ("switch", "orders", "check", "draw", "changes")
+            )
         yield from ((name, [text, b""]) for name in ("switch", "orders"))
     yield "direct", [moves]
     yield "apply", [b"%dx%dx%d" % shape, half, draw.randbytes(4 * shape[0] * shape[1] * shape[2])]
@@ -205,7 +277,11 @@ def are_same(asked, path, *words):
     with tempfile.TemporaryDirectory() as room:
         os.chdir(room)
         calls = Calls(path, *words)
-        wrong = [(name, [text[:80] for text in given]) for name, given in asked if not is_same(calls, name, given)]
+        wrong = [
+            (name, [text[:80] for text in given])
+            for name, given in asked
+            if not is_same(calls, name, given)
+        ]
         os.chdir("/")
     for it in wrong:
         print(f"calls: WRONG: {it}", file=sys.stderr)
@@ -213,15 +289,28 @@ def are_same(asked, path, *words):
 
 
 def has_no_more(path, size):
-    """Whether a thread with so many kilobytes of stack has no more: the program ends where a thread takes as many before its call."""
-    return subprocess.run([path, "over", size], input=b"plan 8\nbatch 0\n", stdout=subprocess.DEVNULL).returncode == -signal.SIGSEGV
+    """Whether a thread with so many kilobytes of stack has no more: the program ends where a thread
+    takes as many before its call."""
+    return (
+        subprocess.run(
+            [path, "over", size], input=b"plan 8\nbatch 0\n", stdout=subprocess.DEVNULL
+        ).returncode
+        == -signal.SIGSEGV
+    )
 
 
 def on_small_stacks(path):
-    """The examples and the largest texts, on threads with as much stack as the page says, which may name calls that need another number."""
+    """The examples and the largest texts, on threads with as much stack as the page says, which may
+    name calls that need another number."""
     with open(f"{TOP}/docs/EMULATORS.md", encoding="utf-8") as file:
-        most, more = re.search(r"and (\d+) kilobytes of stack(.*?)\.", " ".join(file.read().split())).groups()
-    named = {name: size for size, names in re.findall(r", (\d+) in ([^,]*)", more) for name in re.findall(r"`exchange_(\w+)`", names)}
+        most, more = re.search(
+            r"and (\d+) kilobytes of stack(.*?)\.", " ".join(file.read().split())
+        ).groups()
+    named = {
+        name: size
+        for size, names in re.findall(r", (\d+) in ([^,]*)", more)
+        for name in re.findall(r"`exchange_(\w+)`", names)
+    }
     asked = {}
     for name, given in [*examples(), *largest()]:
         asked.setdefault(named.get(name, most), []).append((name, given))
@@ -244,7 +333,10 @@ def main():
     parts = [(path, first, min(size, count - first)) for first in range(0, count, size)]
     with multiprocessing.Pool(workers) as pool:
         well = pool.starmap(try_some, parts)
-    print(f"{count} spoilt texts through the calls for C: {'as the program' if all(well) else 'WRONG'}")
+    print(
+        f"{count} spoilt texts through the calls for C: "
+        f"{'as the program' if all(well) else 'WRONG'}"
+    )
     sys.exit(0 if all(well) else 1)
 
 

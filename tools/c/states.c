@@ -1,13 +1,20 @@
-/* Makes the calls of exchange.h that work over a state, as standard input asks, and writes what they gave.
+/* Makes the calls of exchange.h that work over a state, as standard input asks,
+ * and writes what they gave.
  *
- * All that a call may read or write lies at the very beginning or end of a page between two that can't be touched, and all else of that page
- * has to stay. A call may take no memory. Before each byte the state is copied to another place, where it goes on. What is wrong is told on
- * standard error, and ends the program. Requests, each a line and then bytes, with a line as the reply to each:
+ * All that a call may read or write lies at the very beginning or end of a page between two that
+ * can't be touched, and all else of that page has to stay. A call may take no memory. Before each
+ * byte the state is copied to another place, where it goes on. What is wrong is told on standard
+ * error, and ends the program. Requests, each a line and then bytes, with a line as the reply to
+ * each:
  *
- *   c004 COUNT                  a switch takes COUNT bytes: their statuses, the replies, the last state, all sources, and what is joined
- *   boot BASE MEMORY COUNT      an end takes COUNT bytes, over MEMORY bytes that come before them: statuses, replies, state, memory
- *   switch BYTE                 a state of 36 bytes takes a byte: its status, the reply, the state, all sources, and what is joined
- *   end BASE MEMORY BYTE        a state of 10 bytes takes one over a memory: its status, the reply, the state, the memory */
+ *   c004 COUNT                  a switch takes COUNT bytes: their statuses, the replies, the last
+ *                               state, all sources, and what is joined
+ *   boot BASE MEMORY COUNT      an end takes COUNT bytes, over MEMORY bytes that come before them:
+ *                               statuses, replies, state, memory
+ *   switch BYTE                 a state of 36 bytes takes a byte: its status, the reply, the state,
+ *                               all sources, and what is joined
+ *   end BASE MEMORY BYTE        a state of 10 bytes takes one over a memory: its status,
+ *                               the reply, the state, the memory */
 #define _GNU_SOURCE
 #include "exchange.h"
 #include <stdio.h>
@@ -97,7 +104,8 @@ static uint8_t take(int is_switch, uint32_t base, int at_end, uint8_t byte)
     if (is_switch)
         status = exchange_c004_take((struct exchange_c004 *)state.at, byte, reply.at);
     else
-        status = exchange_boot_take((struct exchange_boot *)state.at, memory.at, memory.count, base, byte, reply.at);
+        status = exchange_boot_take((struct exchange_boot *)state.at, memory.at, memory.count, base,
+                                    byte, reply.at);
     is_calling = 0;
     has_kept(&state);
     has_kept(&memory);
@@ -170,12 +178,14 @@ int main(void)
     reply = new_page();
     while (fgets(line, sizeof line, stdin) != NULL) {
         int given = sscanf(line, "%9s %u %u %u", name, &numbers[0], &numbers[1], &numbers[2]);
-        int is_switch = name[0] == 'c' || name[0] == 's', is_state = name[0] == 's' || name[0] == 'e';
+        int is_switch = name[0] == 'c' || name[0] == 's',
+            is_state = name[0] == 's' || name[0] == 'e';
         size_t many = is_switch ? 0 : numbers[1], count = is_switch ? numbers[0] : numbers[2];
         uint32_t base = is_switch ? 0 : numbers[0];
         if (given != (is_switch ? 2 : 4) || many > sizeof words || (!is_state && count > MOST))
             end("no request");
-        put(&state, 0, fill, is_switch ? sizeof(struct exchange_c004) : sizeof(struct exchange_boot));
+        put(&state, 0, fill,
+            is_switch ? sizeof(struct exchange_c004) : sizeof(struct exchange_boot));
         if (is_state)
             read_bytes(state.at, state.count);
         else if (is_switch)

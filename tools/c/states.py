@@ -1,9 +1,11 @@
 #!/usr/bin/env python3
-"""The calls over states, against the program and against plain Python that shares no code with the product.
+"""The calls over states, against the program and against plain Python
+that shares no code with the product.
 
-    states.py STATES [COUNT]    STATES is the built program tools/c/states.c: COUNT streams of a switch, 20000 where it isn't said, by the
-                                program `exchange c004` and by tools/ends/chip.py too; as many of an end that waits to boot, and as many
-                                states of random bytes, of each
+    states.py STATES [COUNT]    STATES is the built program tools/c/states.c: COUNT streams of a
+                                switch, 20000 where it isn't said, by the program `exchange c004`
+                                and by tools/ends/chip.py too; as many of an end that waits to boot,
+                                and as many states of random bytes, of each
 """
 
 import multiprocessing
@@ -19,7 +21,9 @@ import chip
 import ends
 
 # The statuses, and what stands in the place of an answer, as include/exchange.h has them.
-DONE, REFUSED, REPLY, BOOTSTRAP, MISALIGNED, OUTSIDE, FAILED, LOOSE, NO_PORT, NO_STATE = 0, 1, 4, 5, 6, 7, 8, 32, 33, 34
+DONE, REFUSED, REPLY, BOOTSTRAP, MISALIGNED, OUTSIDE, FAILED, LOOSE, NO_PORT, NO_STATE = (
+    0, 1, 4, 5, 6, 7, 8, 32, 33, 34,
+)  # fmt: skip
 
 PORTS = 32
 
@@ -28,7 +32,12 @@ class Switch:
     """A C004 and what its state tells, by the second implementation of tools/ends."""
 
     def __init__(self):
-        self.chip, self.is_ready, self.statuses, self.replies = chip.Chip(), True, bytearray(), bytearray()
+        self.chip, self.is_ready, self.statuses, self.replies = (
+            chip.Chip(),
+            True,
+            bytearray(),
+            bytearray(),
+        )
 
     def take(self, byte):
         told, begun = len(self.chip.told), [*self.chip.begun, byte]
@@ -50,15 +59,28 @@ class Switch:
         inputs = self.chip.switch.inputs
         yield bytes([inputs.get(output, LOOSE) for output in range(PORTS)] + [NO_PORT])
         for link in range(PORTS):
-            feed = [self.is_ready and inputs.get(link) == other and inputs.get(other) == link for other in range(PORTS)]
+            feed = [
+                self.is_ready and inputs.get(link) == other and inputs.get(other) == link
+                for other in range(PORTS)
+            ]
             yield bytes([*feed, NO_PORT])
         yield bytes([NO_PORT] * (PORTS + 1))
 
 
 def switch_of(state):
     """The switch that has a state, or None: each is looked for by what its bytes are to be."""
-    outputs, begun, count, connecting = state[:PORTS], state[PORTS : PORTS + 2], state[PORTS + 2], state[PORTS + 3]
-    if count > 2 or connecting > 1 or any(begun[count:]) or any(it not in (0, *range(0x80, 0xA0)) for it in outputs):
+    outputs, begun, count, connecting = (
+        state[:PORTS],
+        state[PORTS : PORTS + 2],
+        state[PORTS + 2],
+        state[PORTS + 3],
+    )
+    if (
+        count > 2
+        or connecting > 1
+        or any(begun[count:])
+        or any(it not in (0, *range(0x80, 0xA0)) for it in outputs)
+    ):
         return None
     switch = Switch()
     for output, answer in enumerate(outputs):
@@ -73,7 +95,8 @@ def switch_of(state):
 
 
 class End:
-    """The link's end of a module that waits to boot, which was written from the T414's data sheet and include/exchange.h."""
+    """The link's end of a module that waits to boot,
+    which was written from the T414's data sheet and include/exchange.h."""
 
     def __init__(self, memory, base):
         self.memory, self.base = bytearray(memory), base
@@ -116,7 +139,10 @@ class Calls:
     def ask(self, line, *bytes_after):
         self.process.stdin.write(line.encode() + b"\n" + b"".join(bytes_after))
         self.process.stdin.flush()
-        return [bytes.fromhex(part) for part in self.process.stdout.readline().decode().rstrip("\n").split(" ")[1:]]
+        return [
+            bytes.fromhex(part)
+            for part in self.process.stdout.readline().decode().rstrip("\n").split(" ")[1:]
+        ]
 
     def end(self):
         self.process.stdin.close()
@@ -124,7 +150,8 @@ class Calls:
 
 
 def stream_to_switch(draw, calls):
-    """A stream of commands, mostly spoilt: what the calls give, what is wanted, and what `c004` and the second implementation answer."""
+    """A stream of commands, mostly spoilt: what the calls give, what is wanted, and what `c004` and
+    the second implementation answer."""
     text = b"".join(ends.text_of(draw) for _ in range(draw.choice((1, 1, 2, 5))))
     switch = Switch()
     for byte in text:
@@ -137,7 +164,9 @@ def stream_to_switch(draw, calls):
 def random_message(draw, base, many):
     """A peek or a poke, mostly of a word that is there."""
     last = max(0, many - 4)
-    place = draw.choice((4 * draw.randrange(last // 4 + 1), draw.randrange(many + 8), -4, last, last + 4))
+    place = draw.choice(
+        (4 * draw.randrange(last // 4 + 1), draw.randrange(many + 8), -4, last, last + 4)
+    )
     address = (base + place if draw.random() < 0.97 else draw.randrange(1 << 32)) % (1 << 32)
     if draw.random() < 0.9:
         address -= address % 4
@@ -154,7 +183,9 @@ def random_memory(draw):
 def stream_to_end(draw, calls):
     """A stream of messages, some of them spoilt, over some memory."""
     base, memory = random_memory(draw)
-    text = bytearray(b"".join(random_message(draw, base, len(memory)) for _ in range(draw.randrange(12))))
+    text = bytearray(
+        b"".join(random_message(draw, base, len(memory)) for _ in range(draw.randrange(12)))
+    )
     if draw.random() < 0.3:
         text[draw.randrange(len(text) + 1) :] = draw.randbytes(draw.randrange(4))
     end = End(memory, base)
@@ -189,7 +220,11 @@ def state_of_switch(draw, calls):
         answers = [bytes([NO_STATE] * (PORTS + 1))] * (PORTS + 2)
         return state, found, [bytes([NO_STATE]), b"", state, *answers]
     switch.take(byte)
-    return state, found, [bytes(switch.statuses), bytes(switch.replies), switch.state(), *switch.answers()]
+    return (
+        state,
+        found,
+        [bytes(switch.statuses), bytes(switch.replies), switch.state(), *switch.answers()],
+    )
 
 
 def is_begun(begun):
@@ -224,20 +259,30 @@ KINDS = [stream_to_switch, stream_to_end, state_of_switch, state_of_end]
 
 
 def try_some(path, first, count):
-    """Whether the calls give what is wanted, for some of each kind; and the program `exchange c004` for the streams of switches."""
+    """Whether the calls give what is wanted, for some of each kind; and the program `exchange c004`
+    for the streams of switches."""
     calls, text, answers = Calls(path), b"", b""
     for number in range(first, first + count):
         for kind in KINDS:
             given, found, wanted = kind(random.Random(f"{kind.__name__} {number}"), calls)
             if found != wanted:
-                print(f"states: WRONG: {kind.__name__} {number}: {given.hex(' ')}\n{found}\n{wanted}", file=sys.stderr)
+                print(
+                    f"states: WRONG: {kind.__name__} {number}: {given.hex(' ')}\n{found}\n{wanted}",
+                    file=sys.stderr,
+                )
                 return False
             if kind is stream_to_switch:
-                # A reset that can't be taken for a port begins each stream: the byte before it belongs to no command.
+                # A reset that can't be taken for a port begins each stream:
+                # the byte before it belongs to no command.
                 text, answers = text + b"\xff\4" + given, answers + found[1]
-    program = subprocess.run([ends.EXCHANGE, "c004", "--quiet"], input=text, capture_output=True, timeout=600)
+    program = subprocess.run(
+        [ends.EXCHANGE, "c004", "--quiet"], input=text, capture_output=True, timeout=600
+    )
     if (program.stdout, program.returncode) != (answers, 0):
-        print(f"states: WRONG: streams {first} to {first + count - 1} by `exchange c004`", file=sys.stderr)
+        print(
+            f"states: WRONG: streams {first} to {first + count - 1} by `exchange c004`",
+            file=sys.stderr,
+        )
         return False
     return calls.end()
 
@@ -247,8 +292,13 @@ def main():
     workers = os.cpu_count() or 1
     size = -(-count // workers)
     with multiprocessing.Pool(workers) as pool:
-        well = pool.starmap(try_some, [(path, first, min(size, count - first)) for first in range(0, count, size)])
-    print(f"{count} streams and states of each of {len(KINDS)} kinds: {'as the program, and as plain Python' if all(well) else 'WRONG'}")
+        well = pool.starmap(
+            try_some, [(path, first, min(size, count - first)) for first in range(0, count, size)]
+        )
+    print(
+        f"{count} streams and states of each of {len(KINDS)} kinds: "
+        f"{'as the program, and as plain Python' if all(well) else 'WRONG'}"
+    )
     sys.exit(0 if all(well) else 1)
 
 

@@ -51,7 +51,13 @@ FIRST_ASKED = WOKEN[: len(JOINED) + 2]
 
 def ask(*words, given=b""):
     """What the program prints, standard error with it, and its status."""
-    run = subprocess.run([EXCHANGE, *words], input=given, stdout=subprocess.PIPE, stderr=subprocess.STDOUT, timeout=LIMIT)
+    run = subprocess.run(
+        [EXCHANGE, *words],
+        input=given,
+        stdout=subprocess.PIPE,
+        stderr=subprocess.STDOUT,
+        timeout=LIMIT,
+    )
     return run.stdout.decode(), run.returncode
 
 
@@ -81,7 +87,11 @@ def planned(path, *options):
 
 def lines_for(batch, *options):
     """What `drive` is to print, by `plan`: a line for each setting."""
-    settings = [line[7:] for line in planned(os.path.abspath(batch), *options).splitlines() if line.startswith("setting ")]
+    settings = [
+        line[7:]
+        for line in planned(os.path.abspath(batch), *options).splitlines()
+        if line.startswith("setting ")
+    ]
     return [f"setting {number}{transfers}" for number, transfers in enumerate(settings)]
 
 
@@ -90,8 +100,8 @@ def all_driven(lines):
 
 
 def driven(settings):
-    """What a switch is to be sent that is set so, setting by setting: it comes up, and behind the bytes
-    of each setting that changes it are the enquiries, and the end of the sequence again."""
+    """What a switch is to be sent that is set so, setting by setting: it comes up, and behind the
+    bytes of each setting that changes it are the enquiries, and the end of the sequence again."""
     sent = [b"" if setting == END else setting + ASKED + END for setting in settings]
     return [WOKEN + sent[0], *sent[1:]] if sent else []
 
@@ -122,7 +132,9 @@ def batches():
 def write_batch(name, transfers):
     """Writes a batch of pushes, each of block 0, between these modules."""
     with open(name, "w") as file:
-        file.write("".join([f"batch {len(transfers)}\n", *(f"push {m} 0 {n} 0\n" for m, n in transfers)]))
+        file.write(
+            "".join([f"batch {len(transfers)}\n", *(f"push {m} 0 {n} 0\n" for m, n in transfers)])
+        )
 
 
 def begin_c004(out):
@@ -132,7 +144,9 @@ def begin_c004(out):
 
 def start_apart(words, **streams):
     """Starts a program, with its standard error apart."""
-    return subprocess.Popen(words, **{"stdout": subprocess.PIPE, "stderr": subprocess.PIPE, **streams})
+    return subprocess.Popen(
+        words, **{"stdout": subprocess.PIPE, "stderr": subprocess.PIPE, **streams}
+    )
 
 
 def driven_at_c004(batch, *options, make=Pipes, switches=()):
@@ -180,7 +194,9 @@ def other_schedules():
     yield ended, all_driven(lines_for(thrice, "--steady"))
     yield heard, wanted
     put_away("port0")
-    (ended, heard), wanted = driven_at_c004(THREE, "--schedule", f"{EXAMPLES}/one-at-a-time.plan.txt", "--go-on")
+    (ended, heard), wanted = driven_at_c004(
+        THREE, "--schedule", f"{EXAMPLES}/one-at-a-time.plan.txt", "--go-on"
+    )
     yield ended, all_driven([f"setting {n} {n}" for n in range(3)])
     yield heard, wanted
 
@@ -196,7 +212,10 @@ def a_pty_and_c004():
 
 
 # The wiring that the help of `switch` and docs/SWITCHES.md show.
-BOARD = "wiring 3\nmodule 0 link 0 at 4 link 3 at 21\nmodule 1 link 0 at 5 link 3 at 22\nmodule 2 link 0 at 11 link 3 at 0\n"
+BOARD = (
+    "wiring 3\nmodule 0 link 0 at 4 link 3 at 21\nmodule 1 link 0 at 5 link 3 at 22\n"
+    "module 2 link 0 at 11 link 3 at 0\n"
+)
 
 
 def write_board(text=BOARD):
@@ -208,14 +227,19 @@ def write_board(text=BOARD):
 
 def board_text(links):
     """The wiring of modules that are on these links, two each."""
-    lines = [f"module {m} link 0 at {link0} link 3 at {link3}\n" for m, (link0, link3) in enumerate(links)]
+    lines = [
+        f"module {m} link 0 at {link0} link 3 at {link3}\n"
+        for m, (link0, link3) in enumerate(links)
+    ]
     return f"wiring {len(links)}\n{''.join(lines)}"
 
 
 def sent_by(wiring, batch):
     """What the switch of a board is to be sent, by the second implementation, for each setting."""
     transfers, settings = plan_of(batch)
-    return driven([bytes(sent) for _, _, [(_, sent)] in switching.told(transfers, settings, wiring)])
+    return driven(
+        [bytes(sent) for _, _, [(_, sent)] in switching.told(transfers, settings, wiring)]
+    )
 
 
 def touched(sent):
@@ -230,33 +254,51 @@ def touched(sent):
 
 
 def boards():
-    """Each example that one switch does for, on a board whose modules are on links in some order."""
+    """Each example that one switch does for, on a board whose modules are on links
+    in some order."""
     chance = random.Random(52)
     for batch in batches():
         transfers, settings = plan_of(batch)
         if switching.switches_for(transfers) != [""]:
             continue
-        modules = 1 + max((it for transfer in transfers for it in (transfer[1], transfer[3])), default=0)
+        modules = 1 + max(
+            (it for transfer in transfers for it in (transfer[1], transfer[3])), default=0
+        )
         links = chance.sample(range(32), 2 * chance.randint(modules, 16))
         wiring = list(zip(links[::2], links[1::2]))
         options = write_board(board_text(wiring))
         wanted = sent_by(wiring, batch)
         chip = Far(Pipes("port"))
-        yield (batch, drive(batch, "port", *options, "--go-on")), (batch, all_driven(lines_for(batch)))
+        yield (batch, drive(batch, "port", *options, "--go-on")), (
+            batch,
+            all_driven(lines_for(batch)),
+        )
         yield (batch, chip.heard()), (batch, (b"".join(wanted), []))
         yield (batch, sent_for(batch, *options)), (batch, [wanted])
         put_away("port")
 
 
-# A board that leaves out module 1, link 3 of module 0 and both links of module 4; and what it is refused.
-HOLES = "wiring 4\nmodule 0 link 0 at 4 link 3 none\nmodule 2 link 0 at 11 link 3 at 0\nmodule 3 link 0 none link 3 at 22\nmodule 4 link 0 none link 3 none\n"
+# A board that leaves out module 1, link 3 of module 0 and both links of module 4;
+# and what it is refused.
+HOLES = (
+    "wiring 4\nmodule 0 link 0 at 4 link 3 none\nmodule 2 link 0 at 11 link 3 at 0\n"
+    "module 3 link 0 none link 3 at 22\nmodule 4 link 0 none link 3 none\n"
+)
 THERE = "batch 3\npush 0 0 2 0\npull 2 1 3 0\npush 0 1 3 1\n"
-LACKING = {"push 0 0 1 0\n": "module", "pull 1 0 2 0\n": "module", "push 0 0 4 0\n": "link", "push 3 0 2 0\n": "link", "push 2 0 0 0\n": "link"}
+LACKING = {
+    "push 0 0 1 0\n": "module",
+    "pull 1 0 2 0\n": "module",
+    "push 0 0 4 0\n": "link",
+    "push 3 0 2 0\n": "link",
+    "push 2 0 0 0\n": "link",
+}
 
 
 def a_board_with_holes():
-    """A board that leaves out a module and links: `c004` behind pipes is joined by links that are there alone, once it has come up, and
-    every output is asked. A batch that needs what isn't there is refused as by `switch`, and no port is opened."""
+    """A board that leaves out a module and links: `c004` behind pipes is joined by links that are
+    there alone, once it has come up, and every output is asked. A batch that needs what isn't there
+    is refused as by `switch`, and no port is opened.
+    """
     options = write_board(HOLES)
     with open("there", "w") as file:
         file.write(THERE)
@@ -270,16 +312,24 @@ def a_board_with_holes():
         with open("there", "w") as file:
             file.write(f"batch 2\npush 0 0 2 1\n{line}")
         yield (line, first_line("there", "none", *options)), (line, (f"refused no {what} 1", 1))
-        yield (line, first_line("there", "none", *options, "--schedule", "board")), (line, first_of(ask("switch", "there", *options)))
+        yield (line, first_line("there", "none", *options, "--schedule", "board")), (
+            line,
+            first_of(ask("switch", "there", *options)),
+        )
 
 
 def a_board_at_c004():
-    """The board of the documents, with `c004` behind pipes and behind a pty, by each kind of schedule."""
+    """The board of the documents, with `c004` behind pipes and behind a pty,
+    by each kind of schedule."""
     options = write_board()
     for make in Pipes, Pty:
         for more in (), ("--steady",), ("--schedule", f"{EXAMPLES}/one-at-a-time.plan.txt"):
             (ended, heard), wanted = driven_at_c004(THREE, "--go-on", *options, *more, make=make)
-            lines = [f"setting {n} {n}" for n in range(3)] if "--schedule" in more else lines_for(THREE, *more)
+            lines = (
+                [f"setting {n} {n}" for n in range(3)]
+                if "--schedule" in more
+                else lines_for(THREE, *more)
+            )
             yield (more, ended), (more, all_driven(lines))
             yield (more, heard), (more, wanted)
             yield touched(heard[0][0]) <= {4, 21, 5, 22, 11, 0}, True
@@ -287,8 +337,8 @@ def a_board_at_c004():
 
 
 def the_usual_board():
-    """The usual wiring, written as one: the bytes are those without it, and so is where a switch that
-    lies is found out."""
+    """The usual wiring, written as one: the bytes are those without it,
+    and so is where a switch that lies is found out."""
     options = write_board(board_text(switching.USUAL))
     for batch in THREE, f"{EXAMPLES}/patterns/halo.txt":
         yield sent_for(batch, *options), sent_for(batch)
@@ -299,8 +349,8 @@ def the_usual_board():
 
 
 def lies_on_a_board():
-    """A switch of a board that lies once: the output that is named is the switch's, also one that no
-    module is on."""
+    """A switch of a board that lies once: the output that is named is the switch's,
+    also one that no module is on."""
     yield from lies_at(THREE, *write_board())
 
 
@@ -323,15 +373,25 @@ def left_alone():
 
 
 def refuses_boards():
-    """Wirings that are refused, as by `switch`, and batches that name a module without one. A board has
-    one switch, so two ports are refused, also where both could be opened: nothing is sent, and pipes
-    with nobody at their other ends aren't opened. Nothing is made."""
-    for text in "", "wiring 0\n", "wiring 17\n", BOARD[:-1], BOARD.replace("22", "5"), BOARD.replace("22", "32"), BOARD + "\n":
+    """Wirings that are refused, as by `switch`, and batches that name a module without one. A board
+    has one switch, so two ports are refused, also where both could be opened: nothing is sent, and
+    pipes with nobody at their other ends aren't opened. Nothing is made."""
+    for text in (
+        "",
+        "wiring 0\n",
+        "wiring 17\n",
+        BOARD[:-1],
+        BOARD.replace("22", "5"),
+        BOARD.replace("22", "32"),
+        BOARD + "\n",
+    ):
         options = write_board(text)
         line, status = first_line(THREE, "none", *options)
         yield (line.startswith("refused wiring line "), status), (True, 1)
         yield (text, (line, status)), (text, first_of(ask("switch", THREE, *options)))
-    options = write_board("wiring 2\nmodule 0 link 0 at 4 link 3 at 21\nmodule 1 link 0 at 5 link 3 at 22\n")
+    options = write_board(
+        "wiring 2\nmodule 0 link 0 at 4 link 3 at 21\nmodule 1 link 0 at 5 link 3 at 22\n"
+    )
     yield first_line(THREE, "none", *options), ("refused no module 1", 1)
     yield first_line(WIDE, "none", "none", *options), ("refused no module 0", 1)
     options = write_board()
@@ -429,7 +489,8 @@ def batch_on_input():
 
 
 def hears_too_early():
-    """The other end notes a byte that comes before an answer: behind an enquiry, or a little later."""
+    """The other end notes a byte that comes before an answer: behind an enquiry,
+    or a little later."""
     for piece in 4096, 2:
         chip = Far(Pipes("port"), piece=piece)
         there, back = os.open("port.in", os.O_WRONLY), os.open("port.out", os.O_RDONLY)
@@ -447,7 +508,9 @@ def is_late():
         for ways in {"waits": 8}, {"piece": 1}:
             wanted = sent_for(batch)
             chips = [Far(Pipes(f"port{n}"), **ways) for n in range(len(wanted))]
-            yield drive(batch, *(chip.way.port for chip in chips), "--go-on"), all_driven(lines_for(batch))
+            yield drive(batch, *(chip.way.port for chip in chips), "--go-on"), all_driven(
+                lines_for(batch)
+            )
             yield [chip.heard() for chip in chips], [(b"".join(sent), []) for sent in wanted]
             put_away("port0", "port1")
 
@@ -487,9 +550,16 @@ def forgets():
             for number in range(turns_of(batch, which)):
                 fault = fault_of(batch, which, number)
                 # The joins as it comes up are counted too.
-                chips = [Far(Pipes(f"port{name}"), forgets=ENQUIRIES + number if name == which else None) for name in names]
+                chips = [
+                    Far(Pipes(f"port{name}"), forgets=ENQUIRIES + number if name == which else None)
+                    for name in names
+                ]
                 lines, status = drive(batch, *(chip.way.port for chip in chips), "--go-on")
-                wanted = all_driven(lines_for(batch)) if fault is None else stopped(batch, fault[0], f"switch {fault[1]}")
+                wanted = (
+                    all_driven(lines_for(batch))
+                    if fault is None
+                    else stopped(batch, fault[0], f"switch {fault[1]}")
+                )
                 yield (batch, number, (lines, status)), (batch, number, wanted)
                 yield [chip.heard()[1] for chip in chips], [[] for _ in names]
                 put_away(*(f"port{name}" for name in names))
@@ -538,10 +608,19 @@ def lies_at(batch, *options):
         for number, answer in enumerate(true_answers(sent)[ENQUIRIES:]):
             asked = ENQUIRIES + number
             lie = {asked: lie_for(number, answer)}
-            chips = [Far(Pipes(f"port{n}"), lies=lie, silent=asked + 1) if n == which else Far(Pipes(f"port{n}")) for n in range(len(wanted))]
+            chips = [
+                Far(Pipes(f"port{n}"), lies=lie, silent=asked + 1)
+                if n == which
+                else Far(Pipes(f"port{n}"))
+                for n in range(len(wanted))
+            ]
             ended = drive(batch, *(chip.way.port for chip in chips), *options, "--go-on")
             output = number % 32 + 32 * which
-            yield (which, number, ended), (which, number, stopped(batch, number // 32, f"switch {output}"))
+            yield (which, number, ended), (
+                which,
+                number,
+                stopped(batch, number // 32, f"switch {output}"),
+            )
             yield [chip.heard()[1] for chip in chips], [[] for _ in wanted]
             put_away("port0", "port1")
 
@@ -558,15 +637,19 @@ def two_lie():
 
 def is_loose():
     """Of an answer whose top bit is 0 nothing else is read: the output is loose."""
-    loose = [number for number, answer in enumerate(true_answers(sent_for(THREE)[0])) if number >= ENQUIRIES and answer < 0x80]
+    loose = [
+        number
+        for number, answer in enumerate(true_answers(sent_for(THREE)[0]))
+        if number >= ENQUIRIES and answer < 0x80
+    ]
     chip = Far(Pipes("port"), lies={number: 1 + number for number in loose})
     yield drive(THREE, "port", "--go-on"), all_driven(lines_for(THREE))
     yield chip.heard()[1], []
 
 
 def ended_at(batch, first, second, count):
-    """What is printed where a switch of two settings dies behind so many bytes: no answer comes to an
-    enquiry that ends there."""
+    """What is printed where a switch of two settings dies behind so many bytes: no answer comes to
+    an enquiry that ends there."""
     if count == len(first + second):
         return all_driven(lines_for(batch))
     return stopped(batch, int(count >= len(first)), "port")
@@ -577,20 +660,28 @@ def dies_at_pipes():
     first, second = sent_for(THREE)[0]
     for count in range(len(first + second) + 1):
         chip = Far(Pipes("port"), dies=count)
-        yield (count, drive(THREE, "port", "--go-on")), (count, ended_at(THREE, first, second, count))
+        yield (count, drive(THREE, "port", "--go-on")), (
+            count,
+            ended_at(THREE, first, second, count),
+        )
         yield chip.heard(), ((first + second)[:count], [])
         put_away("port")
 
 
 def one_of_two_dies():
-    """The same with two switches, each in turn. The other one has heard no byte of a later setting."""
+    """The same with two switches, each in turn. The other one has heard no byte
+    of a later setting."""
     batch = wide_batch()
     wanted = sent_for(batch)
     for which, (first, second) in enumerate(wanted):
         for count in range(len(first + second) + 1):
             chips = [Far(Pipes(f"port{n}"), dies=count if n == which else None) for n in range(2)]
             number = int(count >= len(first))
-            yield (which, count, drive(batch, "port0", "port1", "--go-on")), (which, count, ended_at(batch, first, second, count))
+            yield (which, count, drive(batch, "port0", "port1", "--go-on")), (
+                which,
+                count,
+                ended_at(batch, first, second, count),
+            )
             heard, early = chips[which].heard()
             yield (heard, early), ((first + second)[:count], [])
             heard, early = chips[1 - which].heard()
@@ -605,9 +696,14 @@ def dies_at_a_pty():
     """The same at a pty, for some N."""
     first, second = sent_for(THREE)[0]
     whole = len(first + second)
-    for count in 1, 3, 4, 100, 101, 102, 163, 164, 171, 173, 235, 236, 237, 246, 248, whole - 1, whole:
+    for count in (
+        1, 3, 4, 100, 101, 102, 163, 164, 171, 173, 235, 236, 237, 246, 248, whole - 1, whole,
+    ):  # fmt: skip
         chip = Far(Pty("port"), dies=count)
-        yield (count, drive(THREE, "port", "--go-on")), (count, ended_at(THREE, first, second, count))
+        yield (count, drive(THREE, "port", "--go-on")), (
+            count,
+            ended_at(THREE, first, second, count),
+        )
         yield chip.heard(), ((first + second)[:count], [])
         put_away("port")
 
@@ -628,7 +724,9 @@ def at_a_pty():
         wanted = sent_for(batch)
         chips = [Far(Pty(f"tty{n}"), waits=4) for n in range(len(wanted))]
         lines = lines_for(batch)
-        yield drive(batch, *(chip.way.port for chip in chips), given=b"\n" * len(lines)), all_driven(lines)
+        yield drive(
+            batch, *(chip.way.port for chip in chips), given=b"\n" * len(lines)
+        ), all_driven(lines)
         yield [chip.heard() for chip in chips], [(b"".join(sent), []) for sent in wanted]
         put_away("tty0", "tty1")
 
@@ -639,7 +737,9 @@ def two_kinds():
     wanted = sent_for(batch)
     for makes in (Pipes, Pty), (Pty, Pipes):
         chips = [Far(make(f"port{n}")) for n, make in enumerate(makes)]
-        yield drive(batch, *(chip.way.port for chip in chips), "--go-on"), all_driven(lines_for(batch))
+        yield drive(batch, *(chip.way.port for chip in chips), "--go-on"), all_driven(
+            lines_for(batch)
+        )
         yield [chip.heard() for chip in chips], [(b"".join(sent), []) for sent in wanted]
         put_away("port0", "port1")
 
@@ -653,22 +753,30 @@ def is_silent():
 
 
 def tells_the_switch_nothing():
-    """Where standard output or standard error leads to the switch, nothing is sent or told there."""
+    """Where standard output or standard error leads to the switch,
+    nothing is sent or told there."""
     noted = b"exchange: %s: standard output goes there, and nothing else may\n"
-    wanted = {"stdout": lambda name: (None, noted % name.encode(), 3), "stderr": lambda _: (b"refused file\n", None, 1)}
+    wanted = {
+        "stdout": lambda name: (None, noted % name.encode(), 3),
+        "stderr": lambda _: (b"refused file\n", None, 1),
+    }
     for way, name, heard in (Pty, "port", Far.heard), (Pipes, "port.in", Far.heard_of_nobody):
         for stream in "stdout", "stderr":
             chip = Far(way("port"))
             with open(os.open(name, os.O_WRONLY | os.O_NOCTTY), "wb") as end:
-                process = start_apart([EXCHANGE, "drive", THREE, "port", "--go-on"], stdin=subprocess.DEVNULL, **{stream: end})
+                process = start_apart(
+                    [EXCHANGE, "drive", THREE, "port", "--go-on"],
+                    stdin=subprocess.DEVNULL,
+                    **{stream: end},
+                )
                 yield (*process.communicate(), process.returncode), wanted[stream](name)
             yield heard(chip), (b"", [])
             put_away("port")
 
 
 def has_both_ends():
-    """`talk` at one terminal, and `c004` at one socket, have both ends of it. A terminal that is named
-    is no place for a record beside standard output."""
+    """`talk` at one terminal, and `c004` at one socket, have both ends of it. A terminal that is
+    named is no place for a record beside standard output."""
     far, near = os.openpty()
     name = os.ttyname(near)
     subprocess.run(["stty", "-F", name, "raw", "-echo"], check=True)
@@ -676,7 +784,13 @@ def has_both_ends():
     os.write(far, b"peek 0 80000800\nbye\n")
     yield subprocess.run(talk, stdin=near, stdout=near, stderr=near, timeout=LIMIT).returncode, 0
     yield os.read(far, 100), b"word 00000000\nbye\n"
-    run = subprocess.run([*talk, "--record", name], stdin=subprocess.DEVNULL, stdout=near, stderr=subprocess.PIPE, timeout=LIMIT)
+    run = subprocess.run(
+        [*talk, "--record", name],
+        stdin=subprocess.DEVNULL,
+        stdout=near,
+        stderr=subprocess.PIPE,
+        timeout=LIMIT,
+    )
     told = f"exchange: {name}: standard output goes there, and nothing else may\n"
     yield (run.stderr.decode(), run.returncode), (told, 3)
     os.write(far, b"behind")
@@ -684,7 +798,9 @@ def has_both_ends():
     here, there = socket.socketpair()
     here.sendall(b"\x02\x00")
     here.shutdown(socket.SHUT_WR)
-    yield subprocess.run([EXCHANGE, "c004"], stdin=there, stdout=there, stderr=there, timeout=LIMIT).returncode, 0
+    yield subprocess.run(
+        [EXCHANGE, "c004"], stdin=there, stdout=there, stderr=there, timeout=LIMIT
+    ).returncode, 0
     yield here.recv(100), b"\0"
 
 
@@ -692,12 +808,15 @@ def has_both_ends():
 
 
 def left_by_another():
-    """A switch that was left within what a drive sends, at each place of two settings, with up to 30
-    answers in its line: it comes up, and all settings stand."""
+    """A switch that was left within what a drive sends, at each place of two settings, with up
+    to 30 answers in its line: it comes up, and all settings stand."""
     first, second = sent_for(THREE)[0]
     chance = random.Random(69)
     for count in range(len(first + second) + 1):
-        old = bytes(chance.choice((0, 0x80 | chance.randrange(32), chance.randrange(256))) for _ in range(count % 31))
+        old = bytes(
+            chance.choice((0, 0x80 | chance.randrange(32), chance.randrange(256)))
+            for _ in range(count % 31)
+        )
         for make in [Pipes, Pty] if count % 20 == 0 else [Pipes]:
             chip = Far(make("port"), left=(first + second)[:count], old=old)
             yield (count, drive(THREE, "port", "--go-on")), (count, all_driven(lines_for(THREE)))
@@ -710,7 +829,8 @@ def left_by_another():
 
 
 def killed():
-    """Drives that are killed at a slow switch, one after another, over one pty: the next one drives all."""
+    """Drives that are killed at a slow switch, one after another, over one pty:
+    the next one drives all."""
     for count in 1, 100, 101, 102, 130, 163, 165, 172, 190, 235, 240:
         chip = Far(Pty("port"), waits=70)
         process = start_drive(THREE, "port", "--go-on")
@@ -727,15 +847,31 @@ def two_left():
     batch = wide_batch()
     wanted = sent_for(batch)
     for count in range(0, len(wanted[0][0]), 7):
-        chips = [Far(Pipes(f"port{n}"), left=b"".join(wanted[n])[: count + n], old=bytes([0x91] * ((count + 5 * n) % 31))) for n in range(2)]
-        yield (count, drive(batch, "port0", "port1", "--go-on")), (count, all_driven(lines_for(batch)))
+        chips = [
+            Far(
+                Pipes(f"port{n}"),
+                left=b"".join(wanted[n])[: count + n],
+                old=bytes([0x91] * ((count + 5 * n) % 31)),
+            )
+            for n in range(2)
+        ]
+        yield (count, drive(batch, "port0", "port1", "--go-on")), (
+            count,
+            all_driven(lines_for(batch)),
+        )
         yield [chip.heard()[0] for chip in chips], [b"".join(sent) for sent in wanted]
         put_away("port0", "port1")
 
 
 def too_many_left():
     """More old answers than can be told, and what is no answer: it doesn't go on to a setting."""
-    for old in bytes(32), b"\x05" * 40, b"\x9f\xff" * 16, b"\x91" * 31 + b"\x9f", b"\x91" * 40 + b"\x80\x82":
+    for old in (
+        bytes(32),
+        b"\x05" * 40,
+        b"\x9f\xff" * 16,
+        b"\x91" * 31 + b"\x9f",
+        b"\x91" * 40 + b"\x80\x82",
+    ):
         chip = Far(Pipes("port"), old=old)
         yield drive(THREE, "port", "--go-on"), stopped(THREE, 0, "port")
         yield WOKEN.startswith(chip.heard()[0]), True
@@ -746,7 +882,9 @@ def loses_an_end():
     """A switch to which the byte doesn't come that ends the joins of a setting: all outputs answer
     rightly, and it isn't ready. It is once the setting is told."""
     first, second = sent_for(THREE)[0]
-    for number, loses in enumerate([len(first) - len(ASKED) - 2, len(first + second) - len(ASKED) - 2]):
+    for number, loses in enumerate(
+        [len(first) - len(ASKED) - 2, len(first + second) - len(ASKED) - 2]
+    ):
         chip = Far(Pipes("port"), loses=loses)
         process = start_drive(THREE, "port")
         for line in lines_for(THREE)[: number + 1]:
@@ -771,18 +909,27 @@ def taken_up():
             told = list(switching.told(transfers, settings[first:]))
             wanted = [driven([bytes(dict(sent)[name]) for _, _, sent in told]) for name in names]
             chips = [Far(Pipes(f"port{n}")) for n in range(len(names))]
-            ended = drive(batch, *(chip.way.port for chip in chips), "--go-on", "--from", str(first))
+            ended = drive(
+                batch, *(chip.way.port for chip in chips), "--go-on", "--from", str(first)
+            )
             lines = lines_for(batch)
-            yield (batch, first, ended), (batch, first, (lines[first:] + [f"driven settings {len(lines)}"], 0))
+            yield (batch, first, ended), (
+                batch,
+                first,
+                (lines[first:] + [f"driven settings {len(lines)}"], 0),
+            )
             yield [chip.heard() for chip in chips], [(b"".join(sent), []) for sent in wanted]
             put_away("port0", "port1")
-        yield first_line(batch, *(["none"] * len(names)), "--from", str(len(settings))), (f"refused no setting {len(settings)}", 1)
+        yield first_line(batch, *(["none"] * len(names)), "--from", str(len(settings))), (
+            f"refused no setting {len(settings)}",
+            1,
+        )
 
 
 def keeps_lines():
     """A pty that keeps what comes until a line feed, with and without sending it back to the
-    switch, and with reads that would end if it were raw: `drive` waits, as docs/SWITCHES.md says. It
-    has sent one enquiry and told nothing, and is killed."""
+    switch, and with reads that would end if it were raw: `drive` waits, as docs/SWITCHES.md says.
+    It has sent one enquiry and told nothing, and is killed."""
     asked = FIRST_ASKED.replace(b"\n", b"\r\n")
     for modes, sent in [
         (["echo"], asked + b"\x80"),
@@ -870,8 +1017,14 @@ def output_is_full():
     """Where a setting can't be told, nothing more is sent."""
     chip = Far(Pipes("port"))
     with open("/dev/full", "wb") as full:
-        process = start_apart([EXCHANGE, "drive", THREE, "port", "--go-on"], stdin=subprocess.DEVNULL, stdout=full)
-        yield process.communicate()[1], b"exchange: a setting that is set can't be printed: No space left on device (os error 28)\n"
+        process = start_apart(
+            [EXCHANGE, "drive", THREE, "port", "--go-on"], stdin=subprocess.DEVNULL, stdout=full
+        )
+        yield (
+            process.communicate()[1],
+            b"exchange: a setting that is set can't be printed: "
+            b"No space left on device (os error 28)\n",
+        )
     yield process.returncode, 3
     yield chip.heard(), (sent_for(THREE)[0][0], [])
 
@@ -950,7 +1103,13 @@ def no_memory_two_ports():
 def answers_at_once():
     """Each enquiry is answered before anything else comes."""
     chip = begin_c004(subprocess.PIPE)
-    for sent, answer in [("0200", b"\0"), ("0100110211", b"\x80"), ("02", b""), ("00", b"\x91"), ("0600110200", b"\0")]:
+    for sent, answer in [
+        ("0200", b"\0"),
+        ("0100110211", b"\x80"),
+        ("02", b""),
+        ("00", b"\x91"),
+        ("0600110200", b"\0"),
+    ]:
         chip.stdin.write(bytes.fromhex(sent))
         chip.stdin.flush()
         ready, _, _ = select.select([chip.stdout], [], [], LIMIT if answer else 0.1)
@@ -962,16 +1121,32 @@ def answers_at_once():
 def chip_ends():
     """The ways in which `c004` ends."""
     for words in [], ["--quiet"]:
-        run = subprocess.run([EXCHANGE, "c004", *words], input=b"\x2a\x02\x00\x01\x40", capture_output=True, timeout=LIMIT)
+        run = subprocess.run(
+            [EXCHANGE, "c004", *words],
+            input=b"\x2a\x02\x00\x01\x40",
+            capture_output=True,
+            timeout=LIMIT,
+        )
         told = "exchange: standard input: byte 1 is 2a; commands begin with 00 to 06\n"
-        told += "exchange: standard input: byte 5 is 40; ports are 00 to 1f, and the command is dropped\n"
+        told += (
+            "exchange: standard input: byte 5 is 40; ports are 00 to 1f, and the command is "
+            "dropped\n"
+        )
         yield (run.stdout, run.stderr.decode(), run.returncode), (b"\0", "" if words else told, 0)
     with open("/dev/full", "wb") as full:
-        run = subprocess.run([EXCHANGE, "c004"], input=b"\x04\x02\x00\x02\x01", stdout=full, stderr=subprocess.PIPE, timeout=LIMIT)
+        run = subprocess.run(
+            [EXCHANGE, "c004"],
+            input=b"\x04\x02\x00\x02\x01",
+            stdout=full,
+            stderr=subprocess.PIPE,
+            timeout=LIMIT,
+        )
     yield run.returncode, 3
     read, write = os.pipe()
     os.close(read)
-    run = subprocess.run([EXCHANGE, "c004"], input=b"\x02\x00", stdout=write, stderr=subprocess.PIPE, timeout=LIMIT)
+    run = subprocess.run(
+        [EXCHANGE, "c004"], input=b"\x02\x00", stdout=write, stderr=subprocess.PIPE, timeout=LIMIT
+    )
     os.close(write)
     yield run.returncode, 3
     yield drive_status("c004", "word"), 2
@@ -986,7 +1161,9 @@ def c004_no_memory():
     text, wanted, found = b"\x01\x03\x11\x02\x11\x2a\x02\x03", (b"\x83\x91", 0), []
     told = b"exchange: standard input: byte 6 is 2a; commands begin with 00 to 06\n"
     for env in growths():
-        run = subprocess.run([EXCHANGE, "c004"], input=text, capture_output=True, timeout=LIMIT, env=env)
+        run = subprocess.run(
+            [EXCHANGE, "c004"], input=text, capture_output=True, timeout=LIMIT, env=env
+        )
         found.append("as ever" if (run.stdout, run.returncode) == wanted else "no memory")
         if found[-1] == "as ever":
             yield run.stderr, told
@@ -998,7 +1175,11 @@ def c004_no_memory():
 
 def command(chance):
     """The bytes of a command."""
-    byte = chance.choice((0, 1, 2, 2, 2, 3, 4, 5, 6)) if chance.random() < 0.9 else chance.choice((0, 1, 2, 5, 6))
+    byte = (
+        chance.choice((0, 1, 2, 2, 2, 3, 4, 5, 6))
+        if chance.random() < 0.9
+        else chance.choice((0, 1, 2, 5, 6))
+    )
     few = chance.choice((4, 32))
     return bytes([byte, *(chance.randrange(few) for _ in range(PORTS[byte]))])
 
@@ -1022,8 +1203,8 @@ def text_of(chance):
 
 def texts():
     """Texts of commands, good and spoilt, against the second implementation: 100 to each of 200
-    switches, one after another, with a reset before each. A command that a text has begun goes on in
-    the next one."""
+    switches, one after another, with a reset before each.
+    A command that a text has begun goes on in the next one."""
     chance = random.Random(52)
     answered = told = 0
     for _ in range(200):
@@ -1038,17 +1219,23 @@ def texts():
 
 
 CASES = [
-    hears_too_early, examples, many_settings, other_schedules, a_pty_and_c004, hears_in_order, input_ends, no_line_comes, batch_on_input, is_late, forgets,
-    lies, two_lie, is_loose, dies_at_pipes, one_of_two_dies, dies_at_a_pty, says_too_much, at_a_pty, two_kinds, is_silent, tells_the_switch_nothing,
-    has_both_ends, keeps_lines, alters_bytes, at_a_file, refuses, output_is_full, no_memory, no_memory_steady, no_memory_schedule,
-    no_memory_two_ports, no_memory_on_a_board, left_by_another, killed, two_left, too_many_left, loses_an_end, taken_up, answers_at_once,
-    chip_ends, c004_no_memory, texts, boards, a_board_with_holes, a_board_at_c004, the_usual_board, lies_on_a_board, left_alone,
-    refuses_boards,
+    hears_too_early, examples, many_settings, other_schedules, a_pty_and_c004, hears_in_order,
+    input_ends, no_line_comes, batch_on_input, is_late, forgets, lies, two_lie, is_loose,
+    dies_at_pipes, one_of_two_dies, dies_at_a_pty, says_too_much, at_a_pty, two_kinds, is_silent,
+    tells_the_switch_nothing, has_both_ends, keeps_lines, alters_bytes, at_a_file, refuses,
+    output_is_full, no_memory, no_memory_steady, no_memory_schedule, no_memory_two_ports,
+    no_memory_on_a_board, left_by_another, killed, two_left, too_many_left, loses_an_end, taken_up,
+    answers_at_once, chip_ends, c004_no_memory, texts, boards, a_board_with_holes, a_board_at_c004,
+    the_usual_board, lies_on_a_board, left_alone, refuses_boards,
 ]  # fmt: skip
 
 
 def main():
-    chosen = [case for case in CASES if not sys.argv[1:] or any(word in case.__name__ for word in sys.argv[1:])]
+    chosen = [
+        case
+        for case in CASES
+        if not sys.argv[1:] or any(word in case.__name__ for word in sys.argv[1:])
+    ]
     report = harness.Report("ends")
     harness.run_cases(report, chosen, PROCESSES)
     report.finish(1, f"{len(chosen)} cases, {{tried}} things looked at, {{wrong}} cases wrong")

@@ -81,13 +81,32 @@ class Far(threading.Thread):
     piece       how many bytes it reads at once
     """
 
-    def __init__(self, way, forgets=None, lies=None, dies=None, waits=0, adds=None, silent=None, loses=None, left=b"", old=b"", piece=4096):
+    def __init__(
+        self,
+        way,
+        forgets=None,
+        lies=None,
+        dies=None,
+        waits=0,
+        adds=None,
+        silent=None,
+        loses=None,
+        left=b"",
+        old=b"",
+        piece=4096,
+    ):
         super().__init__(daemon=True)
         self.way, self.chip = way, Chip()
         self.chip.forgets = forgets
         for byte in left:
             self.chip.take(byte)
-        self.lies, self.dies, self.waits, self.adds, self.piece = lies or {}, dies, waits, adds or {}, piece
+        self.lies, self.dies, self.waits, self.adds, self.piece = (
+            lies or {},
+            dies,
+            waits,
+            adds or {},
+            piece,
+        )
         self.silent, self.loses, self.old = silent, loses, old
         self.sent, self.enquiries, self.early = bytearray(), 0, []
         self.is_open = threading.Event()
@@ -123,7 +142,9 @@ class Far(threading.Thread):
         if behind or self.is_sent_more(PAUSE if number < self.waits else 0):
             self.early.append(number)
         if (self.silent is None or number < self.silent) and len(self.sent) != self.dies:
-            os.write(self.way.write, bytes([self.lies.get(number, answer)]) + self.adds.get(number, b""))
+            os.write(
+                self.way.write, bytes([self.lies.get(number, answer)]) + self.adds.get(number, b"")
+            )
 
     def is_sent_more(self, seconds):
         """Whether a byte comes within so many seconds. That the other end is closed isn't one."""
@@ -134,7 +155,8 @@ class Far(threading.Thread):
         return any(count)
 
     def sent_by_now(self, wanted):
-        """What it was sent, once it has read so many bytes as are wanted, or a second has passed."""
+        """What it was sent, once it has read so many bytes as are wanted,
+        or a second has passed."""
         for _ in range(100):
             if len(self.sent) >= len(wanted):
                 break

@@ -3,10 +3,12 @@
 
     clients.py [ROUNDS]         so many rounds, 1000 where it isn't said
 
-In each round sixteen random scripts are served side by side, with a record and the image that they leave. In every fifth round `serve` doesn't
-read them, but live clients of `host` say them over named pipes. Plain Python replays the record, and has to come to the image; so has `replay`.
-Each session has to have been told the replies of its own entries, in order, and each reading lies between what its seat had seen and what the
-record allows at that place. The status says whether a fault ended a session.
+In each round sixteen random scripts are served side by side, with a record and the image that they
+leave. In every fifth round `serve` doesn't read them, but live clients of `host` say them over
+named pipes. Plain Python replays the record, and has to come to the image; so has `replay`. Each
+session has to have been told the replies of its own entries, in order, and each reading lies
+between what its seat had seen and what the record allows at that place. The status says whether a
+fault ended a session.
 """
 
 import itertools
@@ -36,15 +38,22 @@ def value_of(reply):
 
 
 class History:
-    """The entries of a record, each (session, the call's text, reply), and how far its runs had come before each."""
+    """The entries of a record, each (session, the call's text, reply),
+    and how far its runs had come before each."""
 
     def __init__(self, entries):
         self.entries = entries
-        self.greatest = list(itertools.accumulate((value_of(reply) for _, _, reply in entries), max, initial=0))
+        self.greatest = list(
+            itertools.accumulate((value_of(reply) for _, _, reply in entries), max, initial=0)
+        )
 
     def of(self, session):
         """The entries of a session, each with its place in the record."""
-        return [(at, call, reply) for at, (owner, call, reply) in enumerate(self.entries) if owner == session]
+        return [
+            (at, call, reply)
+            for at, (owner, call, reply) in enumerate(self.entries)
+            if owner == session
+        ]
 
 
 class Part:
@@ -68,7 +77,9 @@ class Part:
         assert words[:2] == ["progress", "run"] and words[3] == "done", f"{line!r} is no reading"
         value = STEP * int(words[2]) + int(words[4])
         place = self.left[0][0] if self.left else len(self.history.entries)
-        assert self.seen <= value <= self.history.greatest[place], f"{line!r} isn't between {self.seen} and {self.history.greatest[place]}"
+        assert (
+            self.seen <= value <= self.history.greatest[place]
+        ), f"{line!r} isn't between {self.seen} and {self.history.greatest[place]}"
         self.seen, self.readings = value, self.readings + 1
         return line
 
@@ -116,11 +127,15 @@ class Part:
             if reply is None:
                 break
             if not told or told.pop(0) != reply:
-                raise AssertionError(f"{line!r} has {reply!r}, and the session was told {self.told}")
+                raise AssertionError(
+                    f"{line!r} has {reply!r}, and the session was told {self.told}"
+                )
             if reply == "bye":
                 break
         ended = [f"ended {self.reader.ended}"] if self.reader.ended else []
-        assert told == ended and not self.left, f"{told} was told and {self.left} entered behind the end {ended}"
+        assert (
+            told == ended and not self.left
+        ), f"{told} was told and {self.left} entered behind the end {ended}"
 
 
 def parts_of(text):
@@ -140,12 +155,20 @@ def read(name):
 
 
 def judge_round(shape, scripts, told, status, room):
-    """Judges what the sessions were told, their record and their image: the entries, and how many readings there were."""
-    assert status == int(any(line.startswith("ended ") for lines in told.values() for line in lines)), "the status doesn't say whether a fault ended a session"
+    """Judges what the sessions were told, their record and their image: the entries,
+    and how many readings there were."""
+    assert status == int(
+        any(line.startswith("ended ") for lines in told.values() for line in lines)
+    ), "the status doesn't say whether a fault ended a session"
     replay = Replay(read(f"{room}/record"), shape)
-    assert replay.ended and replay.exchange.image() == read(f"{room}/left"), "the record leads to another image"
+    assert replay.ended and replay.exchange.image() == read(
+        f"{room}/left"
+    ), "the record leads to another image"
     again = ask("replay", f"{room}/record")
-    assert (again.out, again.status) == (read(f"{room}/left"), 0), f"`replay` leads to another image: {again.err!r}, status {again.status}"
+    assert (again.out, again.status) == (
+        read(f"{room}/left"),
+        0,
+    ), f"`replay` leads to another image: {again.err!r}, status {again.status}"
     history, readings = History(replay.entries), 0
     for session, script in enumerate(scripts):
         part = Part(history, session, shape, script, told[session])
@@ -155,7 +178,8 @@ def judge_round(shape, scripts, told, status, room):
 
 
 def serve(shape, names, scripts, *options):
-    """Serves scripts that stand in files of these names: how that ended, and what each session was told."""
+    """Serves scripts that stand in files of these names: how that ended,
+    and what each session was told."""
     for name, script in zip(names, scripts):
         with open(name, "wb") as file:
             file.write(script)
@@ -167,23 +191,40 @@ def host(shape, names, scripts, draw, *options):
     """The same of live clients."""
     answer, heard = live.host(shape, names, scripts, draw, *options)
     ends = parts_of(answer.out.decode())
-    return answer, {session: text.decode().splitlines() + ends.get(session, ["nothing of its end"]) for session, text in enumerate(heard)}
+    return (
+        answer,
+        {
+            session: text.decode().splitlines() + ends.get(session, ["nothing of its end"])
+            for session, text in enumerate(heard)
+        },
+    )
 
 
 def try_round(number):
-    """One round: how often each kind of reply came, how many readings there were, whether clients were live, and what is wrong, if something is."""
+    """One round: how often each kind of reply came, how many readings there were, whether clients
+    were live, and what is wrong, if something is."""
     draw = random.Random(f"clients {number}")
     shape = (draw.randint(2, plain.MODULES), draw.randint(2, 4), draw.randint(1, 8))
     scripts = [spoil.crowd_script(draw, shape) for _ in range(CLIENTS)]
     with tempfile.TemporaryDirectory(dir=ROOMS) as room:
-        names, how = [f"{room}/client{session}" for session in range(CLIENTS)], "{}x{}x{}".format(*shape)
+        names, how = (
+            [f"{room}/client{session}" for session in range(CLIENTS)],
+            "{}x{}x{}".format(*shape),
+        )
         kept = ["--record", f"{room}/record", "--image-out", f"{room}/left", "--workers", "2"]
         is_live = number % 5 == 4
-        answer, told = host(how, names, scripts, draw, *kept) if is_live else serve(how, names, scripts, *kept)
+        answer, told = (
+            host(how, names, scripts, draw, *kept) if is_live else serve(how, names, scripts, *kept)
+        )
         try:
             entries, readings = judge_round(shape, scripts, told, answer.status, room)
         except Exception as why:
-            return Counter(), 0, is_live, f"round {number}: {why!r}: {answer.err!r}, status {answer.status}"
+            return (
+                Counter(),
+                0,
+                is_live,
+                f"round {number}: {why!r}: {answer.err!r}, status {answer.status}",
+            )
     return Counter(reply.split()[0] for _, _, reply in entries), readings, is_live, None
 
 
@@ -197,7 +238,10 @@ def main():
             live_ones += is_live
             if why:
                 wrong.append(why)
-    print(f"clients: {rounds} rounds of {CLIENTS}, {live_ones} of them live, {replies.total()} entries, {readings} readings")
+    print(
+        f"clients: {rounds} rounds of {CLIENTS}, {live_ones} of them live, {replies.total()} "
+        f"entries, {readings} readings"
+    )
     for name, times in sorted(replies.items()):
         print(f"clients:   {times:6} {name}")
     for why in wrong[:5]:

@@ -3,19 +3,24 @@
 
     growths.py REFUSE.SO        the library that refuse.c is built to
 
-Command lines: the Nth growth of a whole run of the program is refused, and then the Nth and all later ones, for N from 1 until a run
-meets no refusal. Each time the program prints what it prints with memory, which the rows hold, or the one line `refused no memory`; a
-session is told `refused no memory`, and all else as if that command weren't. The line on standard error beside a refusal may be left out, or
-what it says of how many settings are enough. A help may say that the program is in this folder, where it is called by its name alone. Then
-each start of a thread is refused, which changes no answer. Of `host` a session may also end for want of memory, and without threads nobody is
-served, and no file is made. A record and an image that are left are those of what sessions were told, and the record leads to the image; or
-their files are as they were. A file is the standard input. Beside command lines stands which calls of the libraries they make.
+Command lines: the Nth growth of a whole run of the program is refused, and then the Nth and all
+later ones, for N from 1 until a run meets no refusal. Each time the program prints what it prints
+with memory, which the rows hold, or the one line `refused no memory`; a session is told
+`refused no memory`, and all else as if that command weren't. The line on standard error beside a
+refusal may be left out, or what it says of how many settings are enough. A help may say that the
+program is in this folder, where it is called by its name alone. Then each start of a thread is
+refused, which changes no answer. Of `host` a session may also end for want of memory, and without
+threads nobody is served, and no file is made. A record and an image that are left are those of what
+sessions were told, and the record leads to the image; or their files are as they were. A file is
+the standard input. Beside command lines stands which calls of the libraries they make.
 
 Forks: 64 workers start as many threads as they fork, which is counted where each start is refused.
 
-Calls: `hostile_use NAME` makes a call that the program doesn't make, or that is handed a rack, on its worked row, between two marks. The same is
-done with the growths between them. Each time the answer is want of memory, with all that was lent as before, or the row's own answer. A call whose
-name says that it takes none meets no growth. Nor do the last reading and the closing of an exchange, which `hostile_use clients` makes.
+Calls: `hostile_use NAME` makes a call that the program doesn't make, or that is handed a rack, on
+its worked row, between two marks. The same is done with the growths between them. Each time the
+answer is want of memory, with all that was lent as before, or the row's own answer. A call whose
+name says that it takes none meets no growth. Nor do the last reading and the closing of an
+exchange, which `hostile_use clients` makes.
 """
 
 import multiprocessing
@@ -41,16 +46,23 @@ LONG = "settings 3\nsetting 0\nsetting 1\nsetting 2\nbusiest link 0 module 0\nna
 EACH = "settings 2\nsetting 0\nsetting 1\n"
 SWAP = "batch 2\npush 0 0 1 0\npush 1 0 0 0\n"
 WIDE = "batch 2\npush 16 0 0 0\npush 16 1 1 0\n"
-NINE = "batch 9\n" + "".join(f"push {module} 3 {other} {module}\n" for module in range(3) for other in range(3))
-SCRIPT = "poke 1 80000808 000000ff\nbatch 1\npull 0 0 1 1\nplan 1\nrun 1\nprogress\npeek 0 80000800\nbye\n"
+NINE = "batch 9\n" + "".join(
+    f"push {module} 3 {other} {module}\n" for module in range(3) for other in range(3)
+)
+SCRIPT = (
+    "poke 1 80000808 000000ff\nbatch 1\npull 0 0 1 1\nplan 1\nrun 1\nprogress\npeek 0 80000800\n"
+    "bye\n"
+)
 REFUSALS = (
     "plan 1\nbatch 1\npush 0 0 1 0\nrun 1\nplan 1\nplan 1\nshow 1\nrun 1\nrun 1\ndrop 1\nshow 1\n"
     "peek 2 80000800\npeek 0 80000801\npeek 0 80000000\nhello\n"
 )
 RECORD = sealed(
     b"record-2 2x2x2 00200001 0\n"
-    b"0 poke 1 80000808 000000ff\npoked\n0 batch 1\npull 0 0 1 1\naccepted 1\n0 fetch 1\nfetched\n0 settle 1\nplanned 1 settings 1\n"
-    b"0 run 1\nran 1 run 1 settings 1 words 2 bits 234\n0 peek 0 80000800\nword 000000ff\n1 show 1\nrefused unknown\n"
+    b"0 poke 1 80000808 000000ff\npoked\n0 batch 1\npull 0 0 1 1\naccepted 1\n0 fetch 1\nfetched\n"
+    b"0 settle 1\nplanned 1 settings 1\n"
+    b"0 run 1\nran 1 run 1 settings 1 words 2 bits 234\n0 peek 0 80000800\nword 000000ff\n"
+    b"1 show 1\nrefused unknown\n"
     b"1 peek 1 80000800\nword 00000000\nend\n"
 ).decode()
 # A record of a rack of 3x2x2 that begins with the image.
@@ -61,15 +73,24 @@ PUSHES = TWO_PUSHES + "plan 1\nrun 1\nprogress\npeek 1 80000804\npeek 2 80000800
 IMAGE = "".join(map(chr, range(48)))
 MOVES = "moves 3\nmove 0 0 1 0\nmove 0 1 1 1\nmove 1 2 1 3\n"
 # Wirings: of three modules, and of two.
-BOARD = "wiring 3\nmodule 0 link 0 at 4 link 3 at 21\nmodule 1 link 0 at 5 link 3 at 22\nmodule 2 link 0 at 11 link 3 at 0\n"
+BOARD = (
+    "wiring 3\nmodule 0 link 0 at 4 link 3 at 21\nmodule 1 link 0 at 5 link 3 at 22\n"
+    "module 2 link 0 at 11 link 3 at 0\n"
+)
 SMALL = "wiring 2\nmodule 0 link 0 at 4 link 3 at 21\nmodule 1 link 0 at 5 link 3 at 22\n"
-# What stands in a file before an image goes there, or the record of scripts. That of live clients goes on behind what is there.
-OLDER = {"serve": {"record": b"older words", "image": b"older words"}, "host": {"record": b"", "image": b"older words"}}
+# What stands in a file before an image goes there, or the record of scripts. That of live clients
+# goes on behind what is there.
+OLDER = {
+    "serve": {"record": b"older words", "image": b"older words"},
+    "host": {"record": b"", "image": b"older words"},
+}
 # What a session sees of the words that two pushes write, of batch 1 and of runs.
 LOOK = "peek 1 80000800\npeek 1 80000804\npeek 2 80000800\npeek 2 80000804\nshow 1\nprogress\n"
-# Each call of a book and its exchange, as the command that makes it, and how many calls that command makes before it.
+# Each call of a book and its exchange, as the command that makes it,
+# and how many calls that command makes before it.
 ASKED = [
-    (TWO_PUSHES, 0), ("plan 1\n", 0), ("plan 2\n", 1), ("run 1\n", 0), ("show 1\n", 0), ("peek 1 80000800\n", 0),
+    (TWO_PUSHES, 0), ("plan 1\n", 0), ("plan 2\n", 1), ("run 1\n", 0), ("show 1\n", 0),
+    ("peek 1 80000800\n", 0),
     ("poke 1 80000800 00000007\n", 0), ("drop 1\n", 0),
 ]  # fmt: skip
 
@@ -82,8 +103,10 @@ def entries_of(script):
 
 
 def asked_twice():
-    """A script in which each call is made when the history and the session's list have as many entries as they have room for, which is
-    four at first and then twice as much each time. Each command is given twice, and what it did is looked at behind both."""
+    """A script in which each call is made when the history and the session's list have as many
+    entries as they have room for, which is four at first and then twice as much each time. Each
+    command is given twice, and what it did is looked at behind both.
+    """
     script = ""
     for command, before in ASKED:
         made, room = entries_of(script) + before, 4
@@ -94,78 +117,108 @@ def asked_twice():
 
 
 FILES = {
-    "three": THREE_TRANSFERS, "two": TWO_PUSHES, "nine": NINE, "schedule": SCHEDULE, "long": LONG, "each": EACH, "wrong": "batch 01\n",
+    "three": THREE_TRANSFERS, "two": TWO_PUSHES, "nine": NINE, "schedule": SCHEDULE, "long": LONG,
+    "each": EACH, "wrong": "batch 01\n",
     "script": SCRIPT, "other": "show 1\n", "refusals": REFUSALS,
-    "pushes": PUSHES, "swap": SWAP, "wide": WIDE, "image": IMAGE, "moves": MOVES, "twice": asked_twice(), "board": BOARD, "small": SMALL,
+    "pushes": PUSHES, "swap": SWAP, "wide": WIDE, "image": IMAGE, "moves": MOVES,
+    "twice": asked_twice(), "board": BOARD, "small": SMALL,
     "record": RECORD, "worded": WORDED, "spoilt": RECORD.replace("000000ff\n1", "000000fe\n1"),
     "caller.in": "batch 1\npush 0 0 1 0\nplan 1\nrun 1\n", "keeper.in": KEPT,
 }  # fmt: skip
 # What `talk` refuses whatever was done before.
 FILES["unknown"] = "plan 7\nrun 8\nshow 9\npeek 2 80000800\npeek 0 80000801\nhello\ndrop 3\n"
 FILES["pairs"] = "batch 64\n" + "".join(f"push 0 {block} 1 {block}\n" for block in range(64))
-FILES["turned"] = "batch 32\n" + "".join(f"push {module} 0 {31 - module} 1\n" for module in range(32))
+FILES["turned"] = "batch 32\n" + "".join(
+    f"push {module} 0 {31 - module} 1\n" for module in range(32)
+)
 FILES["both"] = FILES["pairs"] + "plan 1\nrun 1\n" + FILES["turned"] + "plan 2\nrun 2\n"
 # The one that is standard input, and that of `talk`.
 INPUT, TALKED = "three", "unknown"
 
-# How often 64 workers fork where each start of a thread is refused. 64 transfers of one link are halved down to one each, and the settings
-# of one aren't; 32 transfers that share no link aren't, and their setting is. `apply` runs nothing, and forks nothing.
+# How often 64 workers fork where each start of a thread is refused. 64 transfers of one link are
+# halved down to one each, and the settings of one aren't; 32 transfers that share no link aren't,
+# and their setting is. `apply` runs nothing, and forks nothing.
 FORKS = [
-    (["plan", "pairs"], 63), (["switch", "pairs"], 63), (["drive", "pairs", "gone"], 63), (["run", "2x64x1", "pairs"], 63),
-    (["apply", "2x64x1", "pairs", "image"], 0), (["run", "32x2x1", "turned"], 31), (["serve", "32x64x1", "both"], 63 + 31),
+    (["plan", "pairs"], 63), (["switch", "pairs"], 63), (["drive", "pairs", "gone"], 63),
+    (["run", "2x64x1", "pairs"], 63),
+    (["apply", "2x64x1", "pairs", "image"], 0), (["run", "32x2x1", "turned"], 31),
+    (["serve", "32x64x1", "both"], 63 + 31),
 ]  # fmt: skip
 
 COMMANDS = [
-    # `read_arguments`, `Batch::read` and `copy`, `LinkGraph::of` and `transfers_of`, `Table::one_with_room`, `join` and `into_schedule`,
-    # `schedule`, `Schedule::write` and `answer_plan`. Three settings take `Table::take_back` too.
-    ["plan", "three"], ["plan", "three", "--workers", "2"], ["plan", "nine"], ["plan", "nine", "--workers", "2"],
+    # `read_arguments`, `Batch::read` and `copy`, `LinkGraph::of` and `transfers_of`,
+    # `Table::one_with_room`, `join` and `into_schedule`, `schedule`, `Schedule::write` and
+    # `answer_plan`. Three settings take `Table::take_back` too.
+    ["plan", "three"], ["plan", "three", "--workers", "2"], ["plan", "nine"],
+    ["plan", "nine", "--workers", "2"],
     ["plan", "wrong"], ["plan", "missing"], ["plan", "-"],
     # `steady`.
-    ["plan", "three", "--steady"], ["plan", "nine", "--steady"], ["plan", "wrong", "--steady"], ["plan", "-", "--steady"],
+    ["plan", "three", "--steady"], ["plan", "nine", "--steady"], ["plan", "wrong", "--steady"],
+    ["plan", "-", "--steady"],
     # `answer_switch` and `Scheduled::read`.
-    ["switch", "three"], ["switch", "three", "--workers", "2"], ["switch", "wide"], ["switch", "wide", "--workers", "2"],
-    ["switch", "wrong"], ["switch", "-"], ["switch", "three", "--steady"], ["switch", "wide", "--steady"], ["switch", "wrong", "--steady"],
-    ["switch", "three", "--schedule", "schedule"], ["switch", "three", "--schedule", "long"], ["switch", "three", "--schedule", "three"],
-    ["switch", "wide", "--schedule", "each"], ["switch", "-", "--schedule", "schedule"], ["switch", "two", "--schedule", "-"],
+    ["switch", "three"], ["switch", "three", "--workers", "2"], ["switch", "wide"],
+    ["switch", "wide", "--workers", "2"],
+    ["switch", "wrong"], ["switch", "-"], ["switch", "three", "--steady"],
+    ["switch", "wide", "--steady"], ["switch", "wrong", "--steady"],
+    ["switch", "three", "--schedule", "schedule"], ["switch", "three", "--schedule", "long"],
+    ["switch", "three", "--schedule", "three"],
+    ["switch", "wide", "--schedule", "each"], ["switch", "-", "--schedule", "schedule"],
+    ["switch", "two", "--schedule", "-"],
     # The same for a board's wiring, whose reading takes no memory.
-    ["switch", "three", "--wiring", "board"], ["switch", "three", "--wiring", "board", "--workers", "2"],
-    ["switch", "three", "--wiring", "board", "--steady"], ["switch", "three", "--wiring", "board", "--schedule", "schedule"],
-    ["switch", "three", "--wiring", "small"], ["switch", "three", "--wiring", "wrong"], ["switch", "two", "--wiring", "-"],
+    ["switch", "three", "--wiring", "board"],
+    ["switch", "three", "--wiring", "board", "--workers", "2"],
+    ["switch", "three", "--wiring", "board", "--steady"],
+    ["switch", "three", "--wiring", "board", "--schedule", "schedule"],
+    ["switch", "three", "--wiring", "small"], ["switch", "three", "--wiring", "wrong"],
+    ["switch", "two", "--wiring", "-"],
     # `RackOrders::of` and `RackOrders::write`.
-    ["orders", "three"], ["orders", "swap", "--module", "0"], ["orders", "three", "--schedule", "schedule"], ["orders", "three", "--steady"],
+    ["orders", "three"], ["orders", "swap", "--module", "0"],
+    ["orders", "three", "--schedule", "schedule"], ["orders", "three", "--steady"],
     # `Schedule::read`, `check_schedule` and `answer_check`.
     # What `answer_check` finds out of a schedule that it refuses, and `second_line`.
-    ["check", "three", "schedule"], ["check", "three", "three"], ["check", "three", "long"], ["check", "-", "schedule"], ["check", "-", "-"],
+    ["check", "three", "schedule"], ["check", "three", "three"], ["check", "three", "long"],
+    ["check", "-", "schedule"], ["check", "-", "-"],
     # `draw` and `answer_draw`.
     ["draw", "three", "schedule"], ["draw", "three", "three"],
-    # `Rack::new` and `part`, `run` and `answer_run`. Where blocks are swapped, `Batch::held_sources` and a `Rack::part` that holds them.
-    ["run", "3x2x2", "two"], ["run", "3x2x2", "two", "--workers", "2"], ["run", "2x1x1", "swap"], ["run", "3x2", "two"],
-    ["run", "3x2x2", "two", "--image", "image"], ["run", "3x2x2", "three", "--steady"], ["run", "3x2x2", "three", "--schedule", "schedule"],
+    # `Rack::new` and `part`, `run` and `answer_run`. Where blocks are swapped,
+    # `Batch::held_sources` and a `Rack::part` that holds them.
+    ["run", "3x2x2", "two"], ["run", "3x2x2", "two", "--workers", "2"], ["run", "2x1x1", "swap"],
+    ["run", "3x2", "two"],
+    ["run", "3x2x2", "two", "--image", "image"], ["run", "3x2x2", "three", "--steady"],
+    ["run", "3x2x2", "three", "--schedule", "schedule"],
     # `TextList::of`, `Rack::copy`, `Book::new`, `Shared::new`, `serve` and `answer_serve`.
     ["serve", "2x2x2", "script", "other"], ["serve", "2x2x2", "script", "other", "--workers", "2"],
-    ["serve", "3x2x2", "pushes", "--workers", "2"], ["serve", "2x1x1", "refusals"], ["serve", "2x2", "script"],
-    ["serve", "3x2x2", "other", "-"], ["serve", "3x2x2", "other", "--image", "image"], ["serve", "3x2x1", "other", "--image", "image"],
-    # `Book::apply` and `Shared::call` of each call, over words that all differ; `Planned::copy` and `Coloured::copy` too, for a plan that is
-    # settled.
-    ["serve", "3x2x2", "twice", "--image", "image"], ["serve", "3x2x2", "twice", "--image", "image", "--workers", "2"],
+    ["serve", "3x2x2", "pushes", "--workers", "2"], ["serve", "2x1x1", "refusals"],
+    ["serve", "2x2", "script"],
+    ["serve", "3x2x2", "other", "-"], ["serve", "3x2x2", "other", "--image", "image"],
+    ["serve", "3x2x1", "other", "--image", "image"],
+    # `Book::apply` and `Shared::call` of each call, over words that all differ; `Planned::copy` and
+    # `Coloured::copy` too, for a plan that is settled.
+    ["serve", "3x2x2", "twice", "--image", "image"],
+    ["serve", "3x2x2", "twice", "--image", "image", "--workers", "2"],
     # `Rack::image` of the rack that is left.
-    ["serve", "2x2x2", "script", "other", "--image-out", "left-0"], ["serve", "2x2x2", "--image-out", "left-1", "script", "other", "--workers", "2"],
-    ["serve", "3x2x2", "pushes", "--image", "image", "--image-out", "left-2"], ["serve", "2x2", "script", "--image-out", "left-3"],
+    ["serve", "2x2x2", "script", "other", "--image-out", "left-0"],
+    ["serve", "2x2x2", "--image-out", "left-1", "script", "other", "--workers", "2"],
+    ["serve", "3x2x2", "pushes", "--image", "image", "--image-out", "left-2"],
+    ["serve", "2x2", "script", "--image-out", "left-3"],
     # `write_record`, `read_entry`, `replay` and `answer_replay`.
-    ["serve", "2x1x1", "refusals", "--record", "left-4"], ["serve", "2x2x2", "script", "--record", "left-5", "--image-out", "left-6"],
-    ["replay", "record"], ["replay", "worded", "--image", "image"], ["replay", "-", "--first", "2"], ["replay", "spoilt", "--shape", "2x2x2"],
+    ["serve", "2x1x1", "refusals", "--record", "left-4"],
+    ["serve", "2x2x2", "script", "--record", "left-5", "--image-out", "left-6"],
+    ["replay", "record"], ["replay", "worded", "--image", "image"], ["replay", "-", "--first", "2"],
+    ["replay", "spoilt", "--shape", "2x2x2"],
     # `Batch::write`.
     ["direct", "moves"], ["direct", "wrong"], ["direct", "-"],
     ["apply", "3x2x2", "two", "image"], ["apply", "3x2x2", "swap", "image"],
     ["apply", "3x2x1", "two", "image"], ["apply", "3x2x2", "-", "image"],
     # `Beside`.
     ["talk", "2x1x1"],
-    ["--help"], ["help", "run"], ["plan", "--help"], ["chart", "three"], [], ["plan", "three", "--workers", "65"],
+    ["--help"], ["help", "run"], ["plan", "--help"], ["chart", "three"], [],
+    ["plan", "three", "--workers", "65"],
 ]  # fmt: skip
 
 
-# What came of one sweep: its name, how often each kind of answer came, how many growths a run has where none is refused, and how many
-# starts of threads were refused.
+# What came of one sweep: its name, how often each kind of answer came, how many growths a run has
+# where none is refused, and how many starts of threads were refused.
 Swept = namedtuple("Swept", "name found growths unstarted")
 
 
@@ -174,8 +227,9 @@ def input_of(words):
 
 
 def run(which, program, words, between, called=None):
-    """Runs a program while growths are refused: how it ended, and how many growths were met, growths refused, and starts of threads
-    refused. The log is kept in the folder that it is run in."""
+    """Runs a program while growths are refused: how it ended, and how many growths were met,
+    growths refused, and starts of threads refused. The log is kept in the folder that it is run
+    in."""
     log = f"growths.{os.getpid()}"
     env = {"LD_PRELOAD": LIBRARY, "REFUSE": which, "REFUSE_LOG": log}
     if between:
@@ -186,7 +240,8 @@ def run(which, program, words, between, called=None):
 
 
 def sweep(name, program, words, between, judge, called=None):
-    """Refuses each growth, alone and with all later ones, and each start of a thread, and counts what judge says of each run."""
+    """Refuses each growth, alone and with all later ones, and each start of a thread, and counts
+    what judge says of each run."""
     found = Counter()
     for later in ("", "+"):
         n, refused = 0, 1
@@ -230,21 +285,34 @@ def judge_of_command(words, wanted):
 
 
 def is_less_told(ended, wanted):
-    """Whether refusals are as ever, but for what is told beside them: nothing, or nothing of the schedule."""
-    less, left = wanted.err.split(b"; the schedule is valid")[0] + b"\n", iter(wanted.err.splitlines(True))
+    """Whether refusals are as ever, but for what is told beside them: nothing,
+    or nothing of the schedule."""
+    less, left = (
+        wanted.err.split(b"; the schedule is valid")[0] + b"\n",
+        iter(wanted.err.splitlines(True)),
+    )
     is_less = ended.err == less or all(line in left for line in ended.err.splitlines(True))
-    return wanted.err.startswith(b"exchange: ") and (ended.out, ended.status) == (wanted.out, wanted.status) and is_less
+    return (
+        wanted.err.startswith(b"exchange: ")
+        and (ended.out, ended.status) == (wanted.out, wanted.status)
+        and is_less
+    )
 
 
 def served(words):
     """The shape, the scripts and the image of a `serve` command line."""
     names = [INPUT if word == "-" else word for word in words[2:]]
-    scripts = [FILES[name].encode() for before, name in zip(words[1:], names) if name in FILES and before != "--image"]
+    scripts = [
+        FILES[name].encode()
+        for before, name in zip(words[1:], names)
+        if name in FILES and before != "--image"
+    ]
     return words[1].encode(), scripts, FILES["image"].encode() if "--image" in words else None
 
 
 def is_served(words, ended):
-    """Whether sessions were told of the want of memory: each up to there as ever, and from there on as if that command weren't."""
+    """Whether sessions were told of the want of memory: each up to there as ever, and from there on
+    as if that command weren't."""
     shape, scripts, image = served(words)
     status = int(b"\nended " in ended.out)
     well = sessions.told_without_memory(shape, scripts, ended.out, image) is not None
@@ -252,8 +320,8 @@ def is_served(words, ended):
 
 
 def sessions_of(words, ended):
-    """The shape, the scripts and the image of a `serve`, and what it told; and those of a `host`, whose client has no script where its files
-    couldn't be opened."""
+    """The shape, the scripts and the image of a `serve`, and what it told; and those of a `host`,
+    whose client has no script where its files couldn't be opened."""
     if words[0] == "serve":
         return *served(words), ended.out
     shape, client, fault = words[1].encode(), words[2], ended.out.partition(b"\n")[2]
@@ -268,14 +336,19 @@ def images_behind(words, ended):
     if ended.out.startswith(b"refused "):
         return []
     shape, scripts, image, told = sessions_of(words, ended)
-    exchanges = [sessions.told_without_memory(shape, scripts, told, image, is_done) for is_done in (False, True)]
+    exchanges = [
+        sessions.told_without_memory(shape, scripts, told, image, is_done)
+        for is_done in (False, True)
+    ]
     return [exchange.image() for exchange in exchanges if exchange]
 
 
 def kept_files(words):
     """The files for the record and the image that are left, by what they are to keep."""
     options = {"record": "--record", "image": "--image-out"}
-    return {what: words[words.index(option) + 1] for what, option in options.items() if option in words}
+    return {
+        what: words[words.index(option) + 1] for what, option in options.items() if option in words
+    }
 
 
 def put_older(words, files):
@@ -302,11 +375,18 @@ def is_begun(words, kept):
 
 
 def is_record_of(words, ended, record, image):
-    """Whether a record is one of what was told, also where some growths were refused, and leads to the image that is left, if one is."""
-    replay = records.Replay(record, plain.read_shape(words[1].encode()), FILES["image"].encode() if "--image" in words else None)
+    """Whether a record is one of what was told, also where some growths were refused, and leads to
+    the image that is left, if one is."""
+    replay = records.Replay(
+        record,
+        plain.read_shape(words[1].encode()),
+        FILES["image"].encode() if "--image" in words else None,
+    )
     told = sessions_of(words, ended)[3].decode().splitlines()
     replies = [reply for _, _, reply in replay.entries if reply != "fetched"]
-    is_told = [line for line in told if line in replies] == [reply for reply in replies if reply in told]
+    is_told = [line for line in told if line in replies] == [
+        reply for reply in replies if reply in told
+    ]
     return is_told and image in (None, replay.exchange.image())
 
 
@@ -317,8 +397,8 @@ def is_told_of(ended, names):
 
 
 def judge_of_files(words, judge):
-    """A judge of what is answered, and of the record and the image that are left. Where there is no memory for one, its file is as before, the
-    status 3, and a line may say so."""
+    """A judge of what is answered, and of the record and the image that are left. Where there is no
+    memory for one, its file is as before, the status 3, and a line may say so."""
     files = kept_files(words)
     put_older(words, files)
 
@@ -326,14 +406,20 @@ def judge_of_files(words, judge):
         kept, images = taken(words, files), images_behind(words, ended)
         missing = [what for what in files if what not in kept]
         if not images:
-            return f"WRONG {ended}, and {kept}" if kept and not is_begun(words, kept) else judge(ended, refused)
+            return (
+                f"WRONG {ended}, and {kept}"
+                if kept and not is_begun(words, kept)
+                else judge(ended, refused)
+            )
         if "image" in kept and kept["image"] not in images:
             return f"WRONG image {kept['image']} of {ended}"
         if "record" in kept and not is_record_of(words, ended, kept["record"], kept.get("image")):
             return f"WRONG record {kept['record']} of {ended}"
         if not missing:
             return judge(ended, refused)
-        is_well = refused and ended.status == 3 and is_told_of(ended, [files[what] for what in missing])
+        is_well = (
+            refused and ended.status == 3 and is_told_of(ended, [files[what] for what in missing])
+        )
         return f"no {' and no '.join(missing)}" if is_well else f"WRONG {ended}, and no {missing}"
 
     return judge_all
@@ -350,10 +436,18 @@ def sweep_call(name):
 
 
 def sweep_closing(words):
-    """The same for the last reading of a session and the closing of its exchange, each of which stands between marks and takes none."""
+    """The same for the last reading of a session and the closing of its exchange, each of which
+    stands between marks and takes none."""
     wanted = ask(*words, program=CALLS)
-    swept = sweep(" ".join(["hostile_use", *words]), CALLS, words, True, judge_of_command(words, wanted))
-    if swept.growths or wanted.status or wanted.err != b"[]\n" * 2 or not wanted.out.endswith(b"\nclosed\n"):
+    swept = sweep(
+        " ".join(["hostile_use", *words]), CALLS, words, True, judge_of_command(words, wanted)
+    )
+    if (
+        swept.growths
+        or wanted.status
+        or wanted.err != b"[]\n" * 2
+        or not wanted.out.endswith(b"\nclosed\n")
+    ):
         swept.found["WRONG: it takes memory, or isn't closed"] += 1
     return swept
 
@@ -364,10 +458,17 @@ def sweep_command(words):
     if kept_files(words):
         judge = judge_of_files(words, judge)
     swept = sweep(" ".join(["exchange", *words]), EXCHANGE, words, False, judge)
-    if words[:1] == ["serve"] and (wanted.out, wanted.status) != sessions.answer_serve(*served(words)):
+    if words[:1] == ["serve"] and (wanted.out, wanted.status) != sessions.answer_serve(
+        *served(words)
+    ):
         swept.found["WRONG: told otherwise with memory"] += 1
     is_untold = words[:1] == ["talk"] and not swept.found["less told"]
-    if not swept.found["no memory"] or words[-2:] == ["--workers", "2"] and not swept.unstarted or is_untold:
+    if (
+        not swept.found["no memory"]
+        or words[-2:] == ["--workers", "2"]
+        and not swept.unstarted
+        or is_untold
+    ):
         swept.found["WRONG: nothing was refused"] += 1
     return swept
 
@@ -377,17 +478,28 @@ def count_forks(words, forks):
     words = [*words, "--workers", "64"]
     ended, _, _, unstarted = run("T", EXCHANGE, words, False)
     well = ended == ask(*words, given=INPUT) and unstarted == forks
-    return Swept(" ".join(["exchange", *words]), Counter(["as ever" if well else f"WRONG {ended}"]), 0, unstarted)
+    return Swept(
+        " ".join(["exchange", *words]),
+        Counter(["as ever" if well else f"WRONG {ended}"]),
+        0,
+        unstarted,
+    )
 
 
 def compare_starts():
     """A command that fits builds its own words alone; one that doesn't, those of all."""
     fits, fails = (run("0", EXCHANGE, words, False)[1] for words in (["plan", "three"], ["plan"]))
-    return Swept("the words of one command, and of all", Counter(["fewer" if 0 < fits < fails else f"WRONG {fits} of {fails}"]), fits, 0)
+    return Swept(
+        "the words of one command, and of all",
+        Counter(["fewer" if 0 < fits < fails else f"WRONG {fits} of {fails}"]),
+        fits,
+        0,
+    )
 
 
 def sweep_help_by_name():
-    """The same for a help where the program is called by its name alone: the help calls it so too, as far as there is memory for that."""
+    """The same for a help where the program is called by its name alone: the help calls it so too,
+    as far as there is memory for that."""
     wanted, by_path = ask("--help", called="exchange"), ask("--help")
     judge_help = judge_of_command(["--help"], wanted)
 
@@ -395,13 +507,18 @@ def sweep_help_by_name():
         return "told as by a path" if refused and ended == by_path else judge_help(ended, refused)
 
     swept = sweep("exchange --help, by its name", EXCHANGE, ["--help"], False, judge, "exchange")
-    if not swept.found["no memory"] or not swept.found["told as by a path"] or wanted.out != by_path.out.replace(b"./exchange", b"exchange"):
+    if (
+        not swept.found["no memory"]
+        or not swept.found["told as by a path"]
+        or wanted.out != by_path.out.replace(b"./exchange", b"exchange")
+    ):
         swept.found["WRONG: nothing was refused, or told otherwise with memory"] += 1
     return swept
 
 
 def sweep_host(client, *options):
-    """The same for a live client, over plain files. The first run starts no thread, so that no file is made."""
+    """The same for a live client, over plain files. The first run starts no thread,
+    so that no file is made."""
     words = ["host", "2x1x1", client, *options]
     note = b"exchange: the system has no thread for each client; try fewer clients\n"
     no_threads = (b"refused threads\n", note, 1)
@@ -412,25 +529,43 @@ def sweep_host(client, *options):
     def judge(ended, refused):
         if ended in (no_threads, (b"refused threads\n", b"", 1)):
             return "no threads"
-        if refused and ended[1:] == (b"", 1) and re.fullmatch(rb"session 0 %s\nended (open|no memory|write)\n" % client.encode(), ended.out):
+        if (
+            refused
+            and ended[1:] == (b"", 1)
+            and re.fullmatch(
+                rb"session 0 %s\nended (open|no memory|write)\n" % client.encode(), ended.out
+            )
+        ):
             return "a session ended"
         return judge_of_command(words, wanted)(ended, refused)
 
     if options:
         judge = judge_of_files(words, judge)
     swept = sweep(" ".join(["exchange", *words]), EXCHANGE, words, False, judge)
-    if alone != no_threads or is_made or not unstarted or wanted != (f"session 0 {client}\n".encode(), b"", 0) or not swept.found["no memory"]:
+    if (
+        alone != no_threads
+        or is_made
+        or not unstarted
+        or wanted != (f"session 0 {client}\n".encode(), b"", 0)
+        or not swept.found["no memory"]
+    ):
         swept.found["WRONG: served without threads, or told otherwise with memory"] += 1
     return swept
 
 
 def tell(swept):
-    """Prints a line for what was swept, and gives how many runs there were and how many of them went wrong."""
-    parts = [f"{swept.growths} growths"] + [f"{what} {times} times" for what, times in sorted(swept.found.items())]
+    """Prints a line for what was swept, and gives how many runs there were
+    and how many of them went wrong."""
+    parts = [f"{swept.growths} growths"] + [
+        f"{what} {times} times" for what, times in sorted(swept.found.items())
+    ]
     if swept.unstarted:
         parts.append(f"{swept.unstarted} threads not started")
     print(f"growths: {swept.name}: {', '.join(parts)}")
-    return swept.found.total(), sum(times for what, times in swept.found.items() if what.startswith("WRONG"))
+    return (
+        swept.found.total(),
+        sum(times for what, times in swept.found.items() if what.startswith("WRONG")),
+    )
 
 
 def main():
@@ -446,10 +581,15 @@ def main():
             told += [tell(it) for it in pool.imap(sweep_command, COMMANDS)]
         told += [tell(count_forks(*it)) for it in FORKS]
         told += [tell(it) for it in [compare_starts(), sweep_help_by_name(), sweep_host("caller")]]
-        told.append(tell(sweep_host("keeper", "--record", "host-record", "--image-out", "host-left")))
+        told.append(
+            tell(sweep_host("keeper", "--record", "host-record", "--image-out", "host-left"))
+        )
         os.chdir("/")
     wrong = sum(it[1] for it in told)
-    print(f"growths: {len(names) + 1} calls, {len(COMMANDS) + len(FORKS) + 3} command lines, {sum(it[0] for it in told)} runs, {wrong} wrong")
+    print(
+        f"growths: {len(names) + 1} calls, {len(COMMANDS) + len(FORKS) + 3} command lines, "
+        f"{sum(it[0] for it in told)} runs, {wrong} wrong"
+    )
     return 1 if wrong or not names else 0
 
 

@@ -1,9 +1,9 @@
 #!/usr/bin/env python3
 """What judges the program is handed wrong things: judges.py
 
-Each judge of the plain implementation, of rows, of documents, of tables, of edits, of `rt ci` and of
-how much was tried, the scripts of examples that add up prices and make patterns, and the head of the
-test command take what is right, and deny each of the wrong things beside it.
+Each judge of the plain implementation, of rows, of documents, of tables, of edits, of `rt ci` and
+of how much was tried, the scripts of examples that add up prices and make patterns, and the head of
+the test command take what is right, and deny each of the wrong things beside it.
 """
 
 import contextlib
@@ -39,60 +39,90 @@ import tables
 sys.path[:0] = [f"{TOP}/tools", f"{TOP}/tools/rows"]
 import harness
 import reading
+
 JUDGES = ("edits", "least", "python/run", "rack/run", "rows/run", "said", "texts/run")
-edits, least, python, rack, rows, said, texts = (SimpleNamespace(**run_path(f"{TOP}/tools/{name}.py")) for name in JUDGES)
+edits, least, python, rack, rows, said, texts = (
+    SimpleNamespace(**run_path(f"{TOP}/tools/{name}.py")) for name in JUDGES
+)
 
 THREE = b"batch 3\npush 0 0 1 0\npush 0 1 2 0\npush 1 1 2 1\n"
 PLAN = b"settings 2\nsetting 0 2\nsetting 1\nbusiest link 0 module 0\nnamed 0 1\n"
 BYTES = b"setting 0 04 01 00 11 01 01 12 03\nsetting 1 06 00 11 06 01 12 01 00 12 03\n"
 SWAP, SWAPPED = b"batch 2\npush 0 0 1 0\npush 1 0 0 0\n", b"settings 1\nsetting 0 1\n"
 OBEY = (
-    b"modules 2 settings 1\nmodule 0 copies 1 orders 2\ncopy block 0\nsetting 0 link 0 send copy 0\nsetting 0 link 3 receive block 0\n"
-    b"module 1 copies 1 orders 2\ncopy block 0\nsetting 0 link 0 send copy 0\nsetting 0 link 3 receive block 0\n"
+    b"modules 2 settings 1\nmodule 0 copies 1 orders 2\ncopy block 0\n"
+    b"setting 0 link 0 send copy 0\nsetting 0 link 3 receive block 0\n"
+    b"module 1 copies 1 orders 2\ncopy block 0\nsetting 0 link 0 send copy 0\n"
+    b"setting 0 link 3 receive block 0\n"
 )
 MOVES = b"moves 2\nmove 0 0 1 0\nmove 0 1 1 1\n"
-# Two blocks to each of two modules. A steady plan changes the switch twice, and the other one four times.
+# Two blocks to each of two modules. A steady plan changes the switch twice,
+# and the other one four times.
 PAIRS = b"batch 4\npush 0 0 1 0\npush 0 1 1 1\npush 0 2 2 0\npush 0 3 2 1\n"
-STEADY = b"settings 4\nsetting 0\nsetting 1\nsetting 2\nsetting 3\nbusiest link 0 module 0\nnamed 0 1 2 3\n"
-# Two blocks to one module, one to another, and one from elsewhere. With the first of these it makes a change more.
-FOUR = b"batch 4\npush 0 0 3 0\npush 0 1 3 1\npush 0 2 4 0\npush 1 0 2 0\n"
-LONG = b"settings 3\nsetting 0\nsetting 1\nsetting 2 3\nbusiest link 0 module 0\nnamed 0 1 2\n"
+STEADY = (
+    b"settings 4\nsetting 0\nsetting 1\nsetting 2\nsetting 3\nbusiest link 0 module 0\n"
+    b"named 0 1 2 3\n"
+)
 # As in docs/GUIDE.md: lengths of a link's steps with each partner are 2 and 2, or 1 and 3.
-UNEVEN = ["batch 8"] + [f"push {m} {b} {n} {b}" for m, ends in ((0, (1, 1, 2, 2)), (3, (4, 5, 5, 5))) for b, n in enumerate(ends)]
-# This changes the switch four times, and these two links show that three are needed.
+UNEVEN = ["batch 8"] + [
+    f"push {m} {b} {n} {b}"
+    for m, ends in ((0, (1, 1, 2, 2)), (3, (4, 5, 5, 5)))
+    for b, n in enumerate(ends)
+]
+# This changes the switch four times, and equal prices show that three are needed.
 OFTEN = [[0, 5], [2, 4], [1, 6], [3, 7]]
 # Module 0 has a transfer in each of two settings, module 2 one, so that its link 0 is idle once.
 IDLE = ["batch 3", "push 0 0 1 0", "push 0 1 1 1", "push 2 0 3 0"]
 
 # What planning says where instructions can't be counted.
-LACKS, PLANNED = "planning: valgrind is missing, so no instructions were counted\n" + "steps, at most\n" * 10, "planning: 29 batches planned, 32 figures judged\n"
+LACKS, PLANNED = (
+    "planning: valgrind is missing, so no instructions were counted\n" + "steps, at most\n" * 10,
+    "planning: 29 batches planned, 32 figures judged\n",
+)
 
 # What comes of a line of a row, on both streams.
 ROW = "row a\n$ b\nstatus 1\nout\n    refused b\nerr\n    c\n"
-PAGE = "# A page\n[a](#a-page) [`one`](code.rt#L2)\n```console\n$ echo a; echo b\na\n...\n```\n| For example |\n|---|\n| `true` |\n"
+PAGE = "# A page\n[a](#a-page) [`one`](code.rt#L2)\n```console\n$ echo a; echo b\na\n...\n```\n"
 LINE, ABC = b"refused a\n", b"exchange: b c\n"
 MISSING = b"exchange: schedule: transfer 1 occurs in no setting (line 3 of batch)\n"
 
 # A script, what its session is told, and a record of it beside a run of another.
-SCRIPT, TOLD = b"poke 0 80000800 00000001\nprogress\nprogress\npeek 0 80000800\nbye\n", "poked, progress run 0 done 0, progress run 1 done 1, word 00000001, bye"
-RAN = [(0, "poke 0 80000800 00000001\n", "poked"), (1, "run 1\n", "ran 1 run 1 settings 1 words 1 bits 117"), (0, "peek 0 80000800\n", "word 00000001")]
+SCRIPT, TOLD = (
+    b"poke 0 80000800 00000001\nprogress\nprogress\npeek 0 80000800\nbye\n",
+    "poked, progress run 0 done 0, progress run 1 done 1, word 00000001, bye",
+)
+RAN = [
+    (0, "poke 0 80000800 00000001\n", "poked"),
+    (1, "run 1\n", "ran 1 run 1 settings 1 words 1 bits 117"),
+    (0, "peek 0 80000800\n", "word 00000001"),
+]
 # The first of two sessions has no memory for its batch.
 SHORT = b"session 0\nrefused no memory\nrefused unknown\nsession 1\nbye\n"
 CALL, PLAIN = growths.judge_of_call("a"), growths.judge_of_command(["plan"], Ended(LINE, ABC, 1))
 
 
-# Orders of one module, and bytes of a switch, and their tables. A sum has a place of 31 for each number.
-ORDERS = "modules 1 settings 1\nmodule 0 copies 1 orders 2\ncopy block 0\nsetting 0 link 0 send copy 0\nsetting 0 link 3 receive block 0\n"
+# Orders of one module, and bytes of a switch, and their tables.
+# A sum has a place of 31 for each number.
+ORDERS = (
+    "modules 1 settings 1\nmodule 0 copies 1 orders 2\ncopy block 0\nsetting 0 link 0 send copy 0\n"
+    "setting 0 link 3 receive block 0\n"
+)
 IN_C = (
-    "/* the orders of module 0 */\nenum { COPIES = 1, SETTINGS = 1, SUM = 23397 };\nstatic const unsigned char copies[] = {0};\n"
+    "/* the orders of module 0 */\nenum { COPIES = 1, SETTINGS = 1, SUM = 23397 };\n"
+    "static const unsigned char copies[] = {0};\n"
     "static const struct order orders[][2] = {\n    {{SEND_COPY, 0}, {RECEIVE, 0}},\n};\n"
 )
 IN_OCCAM = (
-    "-- the orders of module 0\nVAL INT16 sum IS 23397 (INT16):\nVAL INT n.copies IS 1:\nVAL []BYTE copies IS [0 (BYTE)]:\n"
-    "VAL INT n.settings IS 1:\nVAL [][2][2]BYTE orders IS\n  [[[send.copy, 0 (BYTE)], [receive, 0 (BYTE)]]]:\n"
+    "-- the orders of module 0\nVAL INT16 sum IS 23397 (INT16):\nVAL INT n.copies IS 1:\n"
+    "VAL []BYTE copies IS [0 (BYTE)]:\n"
+    "VAL INT n.settings IS 1:\nVAL [][2][2]BYTE orders IS\n"
+    "  [[[send.copy, 0 (BYTE)], [receive, 0 (BYTE)]]]:\n"
 )
 SET = "setting 0 04 03\nsetting 1 03\n"
-SET_IN_C = "enum { SETTINGS = 2, SUM = 32323 };\nstatic const unsigned long ends[] = {2, 3};\nstatic const unsigned char bytes[] = {4, 3, 3};\n"
+SET_IN_C = (
+    "enum { SETTINGS = 2, SUM = 32323 };\nstatic const unsigned long ends[] = {2, 3};\n"
+    "static const unsigned char bytes[] = {4, 3, 3};\n"
+)
 SET_IN_OCCAM = (
     "VAL INT16 sum IS 32323 (INT16):\nVAL INT n.settings IS 2:\nVAL []INT ends IS [2, 3]:\n"
     "VAL []BYTE bytes IS [#04 (BYTE), #03 (BYTE), #03 (BYTE)]:\n"
@@ -100,8 +130,11 @@ SET_IN_OCCAM = (
 
 
 def priced(first, *lines):
-    """What `draw --prices` prints: its first line, and of each length the price of links 0 of some modules."""
-    return [first] + [f"prices {' '.join(str(line.get(link, 0)) for link in range(64))}" for line in lines]
+    """What `draw --prices` prints: its first line,
+    and of each length the price of links 0 of some modules."""
+    return [first] + [
+        f"prices {' '.join(str(line.get(link, 0)) for link in range(64))}" for line in lines
+    ]
 
 
 def are_right(batch, settings, prices):
@@ -114,8 +147,9 @@ def are_right(batch, settings, prices):
     return True
 
 
+# Prices of steps of one setting and of two. They show as much as equal ones of all links in use.
 ONE, TWO = {0: 21845, 3: 43690}, {0: 43690, 3: 21845}
-GUIDE = priced("settings 4 shown 3", ONE, TWO)
+UNEQUAL = priced("settings 4 shown 3", ONE, TWO)
 ONCE = priced("settings 2 shown 2", {2: 65536}, {})
 
 
@@ -134,8 +168,14 @@ def is_obeyed(batch, schedule, answer):
 
 
 def is_row(out, err, told=b"", status=1):
-    """Whether a row takes what came of a line, by a section of each form, or by what the line itself tells."""
-    says = [("out", b"refused a\n"), ("err begins", b"exchange: "), ("err has", b"b"), ("err ends", b"c\n")]
+    """Whether a row takes what came of a line, by a section of each form,
+    or by what the line itself tells."""
+    says = [
+        ("out", b"refused a\n"),
+        ("err begins", b"exchange: "),
+        ("err has", b"b"),
+        ("err ends", b"c\n"),
+    ]
     row = reading.Row("judges", "judges", status=1)
     row.wanted = [] if told else [reading.Section(head.split(), text) for head, text in says]
     return not rows.judge(row, told, rows.Ended(out, err, status, None))
@@ -153,7 +193,8 @@ def is_read(text):
 
 
 def is_run(*lines):
-    """Whether a row takes what comes of these lines. It has two pipes, which are read in their order, and an input that nobody may read."""
+    """Whether a row takes what comes of these lines. It has two pipes, which are read in their
+    order, and an input that nobody may read."""
     pipes = [reading.Section(["pipe", name], text) for name, text in (("a", b"1"), ("b", b"2"))]
     wanted = [reading.Section(["out", "begins"], b"12")]
     row = reading.Row("judges", "judges", [*lines], [b""] * len(lines), pipes, wanted)
@@ -170,7 +211,8 @@ def is_told(told, script=SCRIPT):
 
 
 def is_ended(told, status):
-    """Whether clients that were told this may leave this status: then a record is looked for, which isn't there."""
+    """Whether clients that were told this may leave this status: then a record is looked for,
+    which isn't there."""
     try:
         clients.judge_round((2, 1, 1), [], {0: told}, status, "/none")
     except AssertionError:
@@ -203,7 +245,8 @@ def is_tried(well):
 
 
 def is_table(text, *changes):
-    """Whether tables are read as those of ORDERS or of SET with some texts in the place of others."""
+    """Whether tables are read as those of ORDERS or of SET with some texts
+    in the place of others."""
     for it in changes:
         text = text.replace(*it)
     told, table_of = (ORDERS, tables.orders) if "orders" in text else (SET, tables.switch)
@@ -222,9 +265,12 @@ def is_well(*things):
 
 
 def is_told_well(text, told=None):
-    """Whether this may be told of line 2 of a batch, and it helps to do so. Where nothing is said it is what belongs there."""
+    """Whether this may be told of line 2 of a batch, and it helps to do so. Where nothing is said
+    it is what belongs there."""
     asked, line = notes.Asked("batch", ("batch", text)), b"refused batch line 2\n"
-    answer = spoilt.Answer(line, notes.told(asked, line) if told is None else told, 1, "", False, {})
+    answer = spoilt.Answer(
+        line, notes.told(asked, line) if told is None else told, 1, "", False, {}
+    )
     return spoilt.is_well_told(answer, asked, line, lambda _: line)
 
 
@@ -244,6 +290,7 @@ def is_printed(script):
 
 def is_handed(*left):
     """Whether the module for Python and plain Python may leave these of one stream."""
+
     def refuse(*_):
         raise ValueError("no C004 has this state")
 
@@ -257,7 +304,10 @@ def is_handed(*left):
 
 def is_called(answer, why):
     """Whether a call of a library may answer and tell this where a schedule lacks transfer 1."""
-    made, given = SimpleNamespace(ask=lambda *_: answer, why=lambda *_: why), [THREE, PLAN.replace(b"setting 1", b"setting")]
+    made, given = (
+        SimpleNamespace(ask=lambda *_: answer, why=lambda *_: why),
+        [THREE, PLAN.replace(b"setting 1", b"setting")],
+    )
     with tempfile.TemporaryDirectory() as room:
         os.chdir(room)
         is_same = calls.is_same(made, "check", given)
@@ -266,21 +316,43 @@ def is_called(answer, why):
 
 
 def is_page(text):
-    """Whether a document is right: of its links, commands and examples there is one each, or two, beside source code."""
+    """Whether a document is right that has two links and one command, beside source code."""
     os.makedirs(f"{TOP}/out", exist_ok=True)
-    with tempfile.TemporaryDirectory(dir=f"{TOP}/out") as folder, contextlib.redirect_stdout(io.StringIO()):
+    with (
+        tempfile.TemporaryDirectory(dir=f"{TOP}/out") as folder,
+        contextlib.redirect_stdout(io.StringIO()),
+    ):
         for name, written in ("page.md", text), ("code.rt", "// one\nfn one()\n"):
             with open(f"{folder}/{name}", "w") as file:
                 file.write(written)
         page = os.path.relpath(f"{folder}/page.md", TOP)
-        return [trial(page) for trial in (texts.try_links, texts.try_document, texts.try_table)] == [(2, 0), (1, 0), (1, 0)]
+        return [texts.try_links(page), texts.try_document(page)] == [(2, 0), (1, 0)]
+
+
+def is_named(name=None, old=None, new=None):
+    """Whether all files name one test command, where one of them has another text."""
+    with tempfile.TemporaryDirectory() as room, contextlib.redirect_stdout(io.StringIO()):
+        for it in ("tools/test.sh", *texts.TESTS):
+            os.makedirs(os.path.dirname(f"{room}/{it}"), exist_ok=True)
+            shutil.copy(f"{TOP}/{it}", f"{room}/{it}")
+        if name:
+            with open(f"{room}/{name}", "r+") as file:
+                text = file.read()
+                assert old in text
+                file.seek(0)
+                file.truncate()
+                file.write(text.replace(old, new))
+        return texts.test_commands(room) == (len(texts.TESTS), 0)
 
 
 def can_be_made(old, before="let a = 1;\nlet b = 1;\n"):
     """Whether an edit that takes this text can be made in a file."""
     with tempfile.TemporaryDirectory() as crate:
         os.mkdir(f"{crate}/must-fail")
-        for name, text in ("lib.rt", before), ("must-fail/an.edit", f"file: lib.rt\nold: {old}\nnew: let c = 2;\n"):
+        for name, text in (
+            ("lib.rt", before),
+            ("must-fail/an.edit", f"file: lib.rt\nold: {old}\nnew: let c = 2;\n"),
+        ):
             with open(f"{crate}/{name}", "w") as file:
                 file.write(text)
         return not [*edits.faults(f"{crate}/must-fail/an.edit")]
@@ -292,145 +364,447 @@ def is_enough(text, tool="tools/rows/run.py"):
 
 
 def is_said(waits, threads, *lines):
-    """Whether crates.txt says what `rt ci` does of a crate that waits so often, and whose tests do so much."""
-    own = [f"logic=proved may-wait={waits}", "== a: its tests", f"logic=proved main=Abort+{threads}"] if waits else []
-    return not [*said.faults(["== a", *own, *lines], {"a": {"may_wait": "1", "tests_may": "Wait+Threads"}})]
+    """Whether crates.txt says what `rt ci` does of a crate that waits so often,
+    and whose tests do so much."""
+    own = (
+        [f"logic=proved may-wait={waits}", "== a: its tests", f"logic=proved main=Abort+{threads}"]
+        if waits
+        else []
+    )
+    return not [
+        *said.faults(["== a", *own, *lines], {"a": {"may_wait": "1", "tests_may": "Wait+Threads"}})
+    ]
 
 
 def is_made(name):
-    """Whether the files of patterns are as they are made, where one of the examples has a line more."""
+    """Whether the files of patterns are as they are made,
+    where one of the examples has a line more."""
     with tempfile.TemporaryDirectory() as room:
         shutil.copytree(f"{TOP}/examples", f"{room}/examples")
         os.symlink(EXCHANGE, f"{room}/exchange")
         with open(f"{room}/examples/{name}", "a") as file:
             file.write("" if name == "ring.txt" else "\n")
-        return subprocess.run([f"{room}/examples/patterns/make.sh", "--check"], capture_output=True).returncode == 0
+        return (
+            subprocess.run(
+                [f"{room}/examples/patterns/make.sh", "--check"], capture_output=True
+            ).returncode
+            == 0
+        )
 
 
 def is_tested(script, fails="", crates="a: std\n"):
-    """Whether a script of the test command ends well where one thing that it calls fails. One that it doesn't call stands in least.txt alone."""
+    """Whether a script of the test command ends well where one thing that it calls fails. One that
+    it doesn't call stands in least.txt alone."""
     with tempfile.TemporaryDirectory() as room:
         with open(f"{TOP}/tools/{script}") as file:
-            called = {*re.findall(r"(?m)^(?:try (?:live )?)?((?:tools|bench|examples)/\S+)", file.read()), "rt", "exchange", "tools/least.py"}
+            called = {
+                *re.findall(r"(?m)^(?:try (?:live )?)?((?:tools|bench|examples)/\S+)", file.read()),
+                "rt",
+                "exchange",
+                "tools/least.py",
+            }
         for name in called:
             os.makedirs(os.path.dirname(f"{room}/{name}"), exist_ok=True)
             with open(f"{room}/{name}", "w") as file:
                 file.write(f"#!/bin/sh\nexit {int(name == fails)}\n")
             os.chmod(f"{room}/{name}", 0o755)
         shutil.copy(f"{TOP}/tools/{script}", f"{room}/tools")
-        for name, text in ("crates.txt", crates), ("tools/least.txt", f"{fails} 1 it\n" if fails and fails not in called else ""):
+        for name, text in (
+            ("crates.txt", crates),
+            ("tools/least.txt", f"{fails} 1 it\n" if fails and fails not in called else ""),
+        ):
             with open(f"{room}/{name}", "w") as file:
                 file.write(text)
         env = {**os.environ, "PATH": f"{room}:{os.environ['PATH']}"}
-        return subprocess.run([f"{room}/tools/{script}"], capture_output=True, env=env).returncode == 0
+        return (
+            subprocess.run([f"{room}/tools/{script}"], capture_output=True, env=env).returncode == 0
+        )
 
 
 # Each judge, what it takes, and what stands in the place of that in turn.
 CASES = [
-    (plain.is_plan, (THREE, PLAN), [
-        (THREE, PLAN.replace(b"setting 0 2\nsetting 1\n", b"setting 0 1\nsetting 2\n")),
-        (THREE, PLAN.replace(b"setting 0 2", b"setting 2 0")),
-        *[(THREE, PLAN.replace(b"setting 0 2\nsetting 1\n", b"setting 1\nsetting %s\n" % it)) for it in (b"0 2", b"2 0")],
-        (THREE, PLAN.replace(b"setting 0 2", b"setting 0")),
-        (THREE, PLAN.replace(b"settings 2", b"settings 3").replace(b"busiest", b"setting\nbusiest")),
-        (THREE, PLAN.replace(b"link 0 module 0", b"link 3 module 2").replace(b"named 0 1", b"named 1 2")),
-        (THREE, PLAN.replace(b"named 0 1", b"named 0")),
-        (THREE, b"settings 2\nsetting 0 2\nsetting 1\n"), (THREE, PLAN + b"\n"), (THREE, b""),
-    ]),
-    (steady.is_steady, (PAIRS, STEADY), [
-        (PAIRS, STEADY.replace(b"setting 1\nsetting 2\n", b"setting 2\nsetting 1\n")),
-        (PAIRS, STEADY.replace(b"setting 3\n", b"")), (PAIRS, STEADY.replace(b"module 0", b"module 1")), (PAIRS, b""),
-    ]),
-    (steady.is_steady, (FOUR, LONG), [(FOUR, LONG.replace(b"setting 0", b"setting 0 3").replace(b"setting 2 3", b"setting 2"))]),
-    (is_bound, (OFTEN, "changes 4, at least 3"), [
-        (OFTEN, "changes 4, at least 2"), (OFTEN, "changes 4, at least 5"), (OFTEN, "changes 3, at least 3"), ([*OFTEN, []], "changes 5, at least 3"),
-        (OFTEN, "changes 4, the fewest"),
-    ]),
-    (switching.is_switched, (THREE, PLAN, BYTES), [
-        (THREE, PLAN, BYTES.replace(b" 03\n", b"\n")), (THREE, PLAN, BYTES.replace(b"06 00 11 ", b"")), (THREE, PLAN, BYTES.replace(b"00 12", b"00 13")),
-        (THREE, PLAN, BYTES[: BYTES.index(b"setting 1")]), (THREE, PLAN, BYTES + b"setting 2 03\n"), (THREE, PLAN, b""),
-    ]),
-    (is_obeyed, (SWAP, SWAPPED, OBEY), [
-        (SWAP, SWAPPED, OBEY.replace(b"copy block 0\n", b"").replace(b"send copy", b"send block")),
-        (SWAP, SWAPPED, OBEY.replace(b"link 3 receive block 0", b"link 3 receive block 1", 1)),
-        (SWAP, SWAPPED, OBEY.replace(b"setting 0 link 3 receive block 0\n", b"", 1)), (SWAP, SWAPPED, b""),
-    ]),
-    (plain.is_directed, (MOVES, b"batch 2\npush 0 0 1 0\npull 1 1 0 1\n"), [
-        (MOVES, b"batch 2\npush 0 0 1 0\npush 0 1 1 1\n"), (MOVES, b"batch 2\npull 1 1 0 1\npush 0 0 1 0\n"), (MOVES, b"batch 1\npush 0 0 1 0\n"),
-        (MOVES, b"batch 2\npush 0 0 1 0\npull 1 1 0 0\n"), (MOVES, b""),
-    ]),
-    (are_right, (UNEVEN, 4, GUIDE), [
-        (UNEVEN, 4, priced("settings 4 shown 4", ONE, TWO)), (UNEVEN, 4, priced("settings 5 shown 3", ONE, TWO)),
-        (UNEVEN, 4, priced("settings 4 shown 3", ONE | {63: 2}, TWO)), (UNEVEN, 4, priced("settings 4 shown 3", ONE, TWO | {63: -1, 62: 1})),
-        (UNEVEN, 4, priced("settings 4 shown 3", ONE)), (UNEVEN, 4, [*GUIDE[:2], GUIDE[2] + " 0"]), (UNEVEN, 4, [*GUIDE[:2], GUIDE[2][:-2]]),
-        (UNEVEN, 4, GUIDE[:1]), (UNEVEN, 5, priced("settings 5 shown 3", ONE, TWO)),
-    ]),
-    (are_right, (UNEVEN, 5, priced("settings 5 shown 0")), [(UNEVEN, 5, priced("settings 5 shown 1"))]),
-    (is_row, (LINE, ABC), [
-        (b"refused b\n", ABC), (b"", ABC), (LINE * 2, ABC), (LINE, b""), (LINE, b"change: b c\n"), (LINE, b"exchange: c\n"), (LINE, b"exchange: b\n"),
-        (LINE, ABC, b"", 0),
-    ]),
+    (
+        plain.is_plan,
+        (THREE, PLAN),
+        [
+            (THREE, PLAN.replace(b"setting 0 2\nsetting 1\n", b"setting 0 1\nsetting 2\n")),
+            (THREE, PLAN.replace(b"setting 0 2", b"setting 2 0")),
+            *[
+                (THREE, PLAN.replace(b"setting 0 2\nsetting 1\n", b"setting 1\nsetting %s\n" % it))
+                for it in (b"0 2", b"2 0")
+            ],
+            (THREE, PLAN.replace(b"setting 0 2", b"setting 0")),
+            (
+                THREE,
+                PLAN.replace(b"settings 2", b"settings 3").replace(b"busiest", b"setting\nbusiest"),
+            ),
+            (
+                THREE,
+                PLAN.replace(b"link 0 module 0", b"link 3 module 2").replace(
+                    b"named 0 1", b"named 1 2"
+                ),
+            ),
+            (THREE, PLAN.replace(b"named 0 1", b"named 0")),
+            (THREE, b"settings 2\nsetting 0 2\nsetting 1\n"),
+            (THREE, PLAN + b"\n"),
+            (THREE, b""),
+        ],
+    ),
+    (
+        steady.is_steady,
+        (PAIRS, STEADY),
+        [
+            (PAIRS, STEADY.replace(b"setting 1\nsetting 2\n", b"setting 2\nsetting 1\n")),
+            (PAIRS, STEADY.replace(b"setting 3\n", b"")),
+            (PAIRS, STEADY.replace(b"module 0", b"module 1")),
+            (PAIRS, b""),
+        ],
+    ),
+    (
+        is_bound,
+        (OFTEN, "changes 4, at least 3"),
+        [
+            (OFTEN, "changes 4, at least 2"),
+            (OFTEN, "changes 4, at least 5"),
+            (OFTEN, "changes 3, at least 3"),
+            ([*OFTEN, []], "changes 5, at least 3"),
+            (OFTEN, "changes 4, the fewest"),
+        ],
+    ),
+    (
+        switching.is_switched,
+        (THREE, PLAN, BYTES),
+        [
+            (THREE, PLAN, BYTES.replace(b" 03\n", b"\n")),
+            (THREE, PLAN, BYTES.replace(b"06 00 11 ", b"")),
+            (THREE, PLAN, BYTES.replace(b"00 12", b"00 13")),
+            (THREE, PLAN, BYTES[: BYTES.index(b"setting 1")]),
+            (THREE, PLAN, BYTES + b"setting 2 03\n"),
+            (THREE, PLAN, b""),
+        ],
+    ),
+    (
+        is_obeyed,
+        (SWAP, SWAPPED, OBEY),
+        [
+            (
+                SWAP,
+                SWAPPED,
+                OBEY.replace(b"copy block 0\n", b"").replace(b"send copy", b"send block"),
+            ),
+            (SWAP, SWAPPED, OBEY.replace(b"link 3 receive block 0", b"link 3 receive block 1", 1)),
+            (SWAP, SWAPPED, OBEY.replace(b"setting 0 link 3 receive block 0\n", b"", 1)),
+            (SWAP, SWAPPED, b""),
+        ],
+    ),
+    (
+        plain.is_directed,
+        (MOVES, b"batch 2\npush 0 0 1 0\npull 1 1 0 1\n"),
+        [
+            (MOVES, b"batch 2\npush 0 0 1 0\npush 0 1 1 1\n"),
+            (MOVES, b"batch 2\npull 1 1 0 1\npush 0 0 1 0\n"),
+            (MOVES, b"batch 1\npush 0 0 1 0\n"),
+            (MOVES, b"batch 2\npush 0 0 1 0\npull 1 1 0 0\n"),
+            (MOVES, b""),
+        ],
+    ),
+    (
+        are_right,
+        (UNEVEN, 4, UNEQUAL),
+        [
+            (UNEVEN, 4, priced("settings 4 shown 4", ONE, TWO)),
+            (UNEVEN, 4, priced("settings 5 shown 3", ONE, TWO)),
+            (UNEVEN, 4, priced("settings 4 shown 3", ONE | {63: 2}, TWO)),
+            (UNEVEN, 4, priced("settings 4 shown 3", ONE, TWO | {63: -1, 62: 1})),
+            (UNEVEN, 4, priced("settings 4 shown 3", ONE)),
+            (UNEVEN, 4, [*UNEQUAL[:2], UNEQUAL[2] + " 0"]),
+            (UNEVEN, 4, [*UNEQUAL[:2], UNEQUAL[2][:-2]]),
+            (UNEVEN, 4, UNEQUAL[:1]),
+            (UNEVEN, 5, priced("settings 5 shown 3", ONE, TWO)),
+        ],
+    ),
+    (
+        are_right,
+        (UNEVEN, 5, priced("settings 5 shown 0")),
+        [(UNEVEN, 5, priced("settings 5 shown 1"))],
+    ),
+    (
+        is_row,
+        (LINE, ABC),
+        [
+            (b"refused b\n", ABC),
+            (b"", ABC),
+            (LINE * 2, ABC),
+            (LINE, b""),
+            (LINE, b"change: b c\n"),
+            (LINE, b"exchange: c\n"),
+            (LINE, b"exchange: b\n"),
+            (LINE, ABC, b"", 0),
+        ],
+    ),
     (is_row, (b"", ABC, ABC), [(b"", b"", ABC), (LINE, ABC, ABC), (b"", ABC * 2, ABC)]),
-    (is_read, (ROW,), [
-        (ROW + "word\n",), (ROW.replace("d b", "d \\b"),), (ROW * 2,), (ROW.replace("$", "#"),), ("row a\n$ b\n",), (ROW.partition("err")[0],),
-    ]),
-    (is_run, ("cat a b", "cat a b"), [
-        ("cat b a",), ("cat a; printf 2",), ("cat a b -",), ("cat a b", "cat a b; printf 3"), ("cat a b; exit 1",), ("cat a b; echo 3 >&2",),
-    ]),
-    (is_told, (TOLD,), [
-        (TOLD.replace(*it),) for it in [("run 1 done", "run 1 gone"), ("run 1", "run 2"), ("0 done 0, progress run 1 done 1", "1 done 1, progress run 0 done 0"), ("01", "02"), ("bye", "bye, ended cut")]
-    ] + [(TOLD, SCRIPT.replace(b"01", b"02")), (TOLD.replace("word 00000001, ", ""), SCRIPT.replace(b"peek 0 80000800\n", b""))]),
-    (is_expected, (LINE, LINE), [(LINE, ABC), (LINE, lambda it: it == ABC)]), (is_tried, (True,), [(False,)]),
+    (
+        is_read,
+        (ROW,),
+        [
+            (ROW + "word\n",),
+            (ROW.replace("d b", "d \\b"),),
+            (ROW * 2,),
+            (ROW.replace("$", "#"),),
+            ("row a\n$ b\n",),
+            (ROW.partition("err")[0],),
+        ],
+    ),
+    (
+        is_run,
+        ("cat a b", "cat a b"),
+        [
+            ("cat b a",),
+            ("cat a; printf 2",),
+            ("cat a b -",),
+            ("cat a b", "cat a b; printf 3"),
+            ("cat a b; exit 1",),
+            ("cat a b; echo 3 >&2",),
+        ],
+    ),
+    (
+        is_told,
+        (TOLD,),
+        [
+            (TOLD.replace(*it),)
+            for it in [
+                ("run 1 done", "run 1 gone"),
+                ("run 1", "run 2"),
+                ("0 done 0, progress run 1 done 1", "1 done 1, progress run 0 done 0"),
+                ("01", "02"),
+                ("bye", "bye, ended cut"),
+            ]
+        ]
+        + [
+            (TOLD, SCRIPT.replace(b"01", b"02")),
+            (TOLD.replace("word 00000001, ", ""), SCRIPT.replace(b"peek 0 80000800\n", b"")),
+        ],
+    ),
+    (is_expected, (LINE, LINE), [(LINE, ABC), (LINE, lambda it: it == ABC)]),
+    (is_tried, (True,), [(False,)]),
     (is_ended, (["ended cut"], 1), [(["ended cut"], 0), (["poked"], 1)]),
-    (is_left, (SHORT,), [
-        (SHORT.replace(*it),) for it in [(b"0\n", b"2\n"), (b"1\n", b"2\n"), (b"bye\n", b"bye\nbye\n"), (b"unknown", b"unplanned"), (b"refused unknown\n", b""), (b"bye\n", b"")]
-    ] + [(b"session 0\nrefused no memory\n", [b"hello\n"])]),
-    (is_grown, (CALL, b"a: no memory\n", b"", 0), [(CALL, b"a: no memory\n", b"", 0, 0), (CALL, b"a: row\n", b"", 1), (CALL, b"b: row\n", b"", 0)]),
-    (is_grown, (PLAIN, LINE, b"", 1), [
-        (PLAIN, LINE, b"", 1, 0), (PLAIN, LINE, b"exchange: c\n", 1), (PLAIN, LINE, b"", 0), (PLAIN, b"refused no memory\n", b"", 3),
-    ]),
+    (
+        is_left,
+        (SHORT,),
+        [
+            (SHORT.replace(*it),)
+            for it in [
+                (b"0\n", b"2\n"),
+                (b"1\n", b"2\n"),
+                (b"bye\n", b"bye\nbye\n"),
+                (b"unknown", b"unplanned"),
+                (b"refused unknown\n", b""),
+                (b"bye\n", b""),
+            ]
+        ]
+        + [(b"session 0\nrefused no memory\n", [b"hello\n"])],
+    ),
+    (
+        is_grown,
+        (CALL, b"a: no memory\n", b"", 0),
+        [
+            (CALL, b"a: no memory\n", b"", 0, 0),
+            (CALL, b"a: row\n", b"", 1),
+            (CALL, b"b: row\n", b"", 0),
+        ],
+    ),
+    (
+        is_grown,
+        (PLAIN, LINE, b"", 1),
+        [
+            (PLAIN, LINE, b"", 1, 0),
+            (PLAIN, LINE, b"exchange: c\n", 1),
+            (PLAIN, LINE, b"", 0),
+            (PLAIN, b"refused no memory\n", b"", 3),
+        ],
+    ),
     (is_well, ((1, 1), (2, 2)), [((1, 2),), ((1, 1), (1, 2)), ((1, 2), (1, 1)), ()]),
-    (is_told_well, (b"batch 1\npush 0 0 1\n",), [(b"batch 1\npush 0 0 1\n", b""), (b"batch 1\npush 0 0 0 0\n",)]),
-    (is_noted, (python, True), [(python, False), (python, "")]), (is_noted, (rack, True), [(rack, False), (rack, None)]),
+    (
+        is_told_well,
+        (b"batch 1\npush 0 0 1\n",),
+        [(b"batch 1\npush 0 0 1\n", b""), (b"batch 1\npush 0 0 0 0\n",)],
+    ),
+    (is_noted, (python, True), [(python, False), (python, "")]),
+    (is_noted, (rack, True), [(rack, False), (rack, None)]),
     (is_printed, ("echo a",), [("echo b",), ("echo a; exit 1",), ("echo a; echo b >&2",)]),
     (is_handed, (1, 1), [(1, 2)]),
     (is_made, ("ring.txt",), [("all-to-all.txt",), ("patterns/halo.svg",)]),
-    (is_tested, ("test.sh",), [("test.sh", it) for it in ("rt", "tools/said.py", "tools/try_programs.sh")]),
-    (is_tested, ("try_programs.sh",), [
-        *[("try_programs.sh", it) for it in ("exchange", "tools/edits.py", "tools/rack/run.py", "tools/hostile/run.sh", "tools/none.py")],
-        ("try_programs.sh", "", "a: std os\n"),
-    ]),
-    (is_called, ((1, b"refused check missing 1\n"), (0, MISSING)), [
-        ((0, b"refused check missing 1\n"), (0, MISSING)), ((1, b"refused check missing 2\n"), (0, MISSING)),
-        ((1, b"refused check missing 1\n"), (1, MISSING)), ((1, b"refused check missing 1\n"), (0, b"")),
-    ]),
-    (is_page, (PAGE,), [
-        (PAGE.replace(*it),) for it in [("#a-page", "#page"), ("](code", "](../../code"), ("#L2", "#L1"), ("`one`", "`on`"), ("#L2", "#M2"), ("\na\n", "\nb\n"),
-        ("`true`", "`false`"), ("console", "file x"), ("For example", "Example")]
-    ]),
-    (texts.fits, (["a", "...", "b"], ["a", "c", "b"]), [
-        (["a", "...", "b"], ["a", "c"]), (["a", "...", "b"], ["c", "b"]), (["a"], ["b"]), (["a"], ["a", "b"]), (["a", "b"], ["a"]), ([], ["a"]), (["a"], []),
-    ]),
-    (is_enough, ("rows: 9 tried, 0 wrong\nrows: 5000 tried, 0 wrong\n",), [("rows: 900 tried, 0 wrong\n",), ("5000\n",), ("rows: 5000 tried\nWRONG\n",), ("", "tools/none.py")]),
-    (is_enough, (LACKS + PLANNED, "bench/planning/run.sh"), [(LACKS, "bench/planning/run.sh"), (PLANNED, "bench/planning/run.sh")]),
-    (is_said, (1, "Threads+Wait"), [
-        (2, "Threads+Wait"), (1, "Wait"), (0, ""), (0, "", "== a: its tests", "logic=proved main=Abort+Threads+Wait"),
-        (1, "Threads+Wait", "BAD EDIT a"), (1, "Threads+Wait", "only by a limit"),
-    ]),
-    (can_be_made, ("let a = 1;",), [("let c = 1;",), ("= 1;",), ("let a = 1;", ""), ("let c = 2;", "let c = 2;\n")]),
-    (is_table, (IN_C,), [(IN_C, *it) for it in [
-        [("97", "98")], [("{0}", "{0, 0}")], [("e 0", "e 1")], [("},\n}", "},\n\n}")], [("23397", "25166"), ("},\n}", "},\n    {{IDLE, 0}, {IDLE, 0}},\n}")],
-        [("23397", "20408"), ("RECEIVE", "SEND"), ("SEND_COPY", "RECEIVE"), ("SEND,", "SEND_COPY,")],
-    ]]),
-    (is_table, (IN_OCCAM,), [(IN_OCCAM, *it) for it in [
-        [("97", "98")], [("[0", "[0 (BYTE), 0")], [("e 0", "e 1")], [("]]]", "]] ]")],
-        [("23397", "25166"), ("]]]", "]],\n   [[idle, 0 (BYTE)], [idle, 0 (BYTE)]]]")],
-        [("23397", "20408"), ("receive", "send"), ("send.copy", "receive"), ("send,", "send.copy,")],
-    ]]),
-    (is_table, (SET_IN_C,), [(SET_IN_C, it) for it in [("23 }", "24 }"), ("{2, 3", "{2, 3, 3"), ("{4, 3", "{4, 3, 3"), ("{4", "{5")]]),
-    (is_table, (SET_IN_OCCAM,), [(SET_IN_OCCAM, it) for it in [("23 (", "24 ("), ("[2, 3", "[2, 3, 3"), ("[#04", "[#04 (BYTE), #03"), ("#04", "#05")]]),
-    (are_right, (IDLE, 2, ONCE), [(IDLE, 2, priced("settings 2 shown 3", {2: 65536}, {})), (IDLE, 2, priced("settings 2 shown 2", {2: 32768}, {}))]),
-]  # fmt: skip
+    (
+        is_tested,
+        ("test.sh",),
+        [("test.sh", it) for it in ("rt", "tools/said.py", "tools/try_programs.sh")],
+    ),
+    (
+        is_tested,
+        ("try_programs.sh",),
+        [
+            *[
+                ("try_programs.sh", it)
+                for it in (
+                    "exchange",
+                    "tools/edits.py",
+                    "tools/rack/run.py",
+                    "tools/hostile/run.sh",
+                    "tools/none.py",
+                )
+            ],
+            ("try_programs.sh", "", "a: std os\n"),
+        ],
+    ),
+    (
+        is_called,
+        ((1, b"refused check missing 1\n"), (0, MISSING)),
+        [
+            ((0, b"refused check missing 1\n"), (0, MISSING)),
+            ((1, b"refused check missing 2\n"), (0, MISSING)),
+            ((1, b"refused check missing 1\n"), (1, MISSING)),
+            ((1, b"refused check missing 1\n"), (0, b"")),
+        ],
+    ),
+    (
+        is_page,
+        (PAGE,),
+        [
+            (PAGE.replace(*it),)
+            for it in [
+                ("#a-page", "#page"),
+                ("](code", "](../../code"),
+                ("#L2", "#L1"),
+                ("`one`", "`on`"),
+                ("#L2", "#M2"),
+                ("\na\n", "\nb\n"),
+                ("console", "file x"),
+            ]
+        ],
+    ),
+    (
+        is_named,
+        (),
+        [
+            *[(name, "tools/test.sh", "tools/try.sh") for name in texts.TESTS],
+            ("README.md", "runs all tests", "runs tests"),
+        ],
+    ),
+    (
+        texts.fits,
+        (["a", "...", "b"], ["a", "c", "b"]),
+        [
+            (["a", "...", "b"], ["a", "c"]),
+            (["a", "...", "b"], ["c", "b"]),
+            (["a"], ["b"]),
+            (["a"], ["a", "b"]),
+            (["a", "b"], ["a"]),
+            ([], ["a"]),
+            (["a"], []),
+        ],
+    ),
+    (
+        is_enough,
+        ("rows: 9 tried, 0 wrong\nrows: 5000 tried, 0 wrong\n",),
+        [
+            ("rows: 900 tried, 0 wrong\n",),
+            ("5000\n",),
+            ("rows: 5000 tried\nWRONG\n",),
+            ("", "tools/none.py"),
+        ],
+    ),
+    (
+        is_enough,
+        (LACKS + PLANNED, "bench/planning/run.sh"),
+        [(LACKS, "bench/planning/run.sh"), (PLANNED, "bench/planning/run.sh")],
+    ),
+    (
+        is_said,
+        (1, "Threads+Wait"),
+        [
+            (2, "Threads+Wait"),
+            (1, "Wait"),
+            (0, ""),
+            (0, "", "== a: its tests", "logic=proved main=Abort+Threads+Wait"),
+            (1, "Threads+Wait", "BAD EDIT a"),
+            (1, "Threads+Wait", "only by a limit"),
+        ],
+    ),
+    (
+        can_be_made,
+        ("let a = 1;",),
+        [("let c = 1;",), ("= 1;",), ("let a = 1;", ""), ("let c = 2;", "let c = 2;\n")],
+    ),
+    (
+        is_table,
+        (IN_C,),
+        [
+            (IN_C, *it)
+            for it in [
+                [("97", "98")],
+                [("{0}", "{0, 0}")],
+                [("e 0", "e 1")],
+                [("},\n}", "},\n\n}")],
+                [("23397", "25166"), ("},\n}", "},\n    {{IDLE, 0}, {IDLE, 0}},\n}")],
+                [
+                    ("23397", "20408"),
+                    ("RECEIVE", "SEND"),
+                    ("SEND_COPY", "RECEIVE"),
+                    ("SEND,", "SEND_COPY,"),
+                ],
+            ]
+        ],
+    ),
+    (
+        is_table,
+        (IN_OCCAM,),
+        [
+            (IN_OCCAM, *it)
+            for it in [
+                [("97", "98")],
+                [("[0", "[0 (BYTE), 0")],
+                [("e 0", "e 1")],
+                [("]]]", "]] ]")],
+                [("23397", "25166"), ("]]]", "]],\n   [[idle, 0 (BYTE)], [idle, 0 (BYTE)]]]")],
+                [
+                    ("23397", "20408"),
+                    ("receive", "send"),
+                    ("send.copy", "receive"),
+                    ("send,", "send.copy,"),
+                ],
+            ]
+        ],
+    ),
+    (
+        is_table,
+        (SET_IN_C,),
+        [
+            (SET_IN_C, it)
+            for it in [("23 }", "24 }"), ("{2, 3", "{2, 3, 3"), ("{4, 3", "{4, 3, 3"), ("{4", "{5")]
+        ],
+    ),
+    (
+        is_table,
+        (SET_IN_OCCAM,),
+        [
+            (SET_IN_OCCAM, it)
+            for it in [
+                ("23 (", "24 ("),
+                ("[2, 3", "[2, 3, 3"),
+                ("[#04", "[#04 (BYTE), #03"),
+                ("#04", "#05"),
+            ]
+        ],
+    ),
+    (
+        are_right,
+        (IDLE, 2, ONCE),
+        [
+            (IDLE, 2, priced("settings 2 shown 3", {2: 65536}, {})),
+            (IDLE, 2, priced("settings 2 shown 2", {2: 32768}, {})),
+        ],
+    ),
+]
 
 
 def main():

@@ -1,4 +1,5 @@
-"""Live clients of `exchange host`, each of which goes through a script over named pipes, all at once."""
+"""Live clients of `exchange host`, each of which goes through a script over named pipes,
+all at once."""
 
 import os
 import re
@@ -17,7 +18,8 @@ from harness import Late, limit  # noqa: E402
 
 
 def commands(script):
-    """The commands of a script, each with all its lines: so many replies are told, unless the session ends before."""
+    """The commands of a script, each with all its lines: so many replies are told,
+    unless the session ends before."""
     lines = re.findall(rb"[^\n]*\n|[^\n]+", script)
     while lines:
         found = COMMANDS[0][0].fullmatch(lines[0].rstrip(b"\n"))
@@ -27,7 +29,8 @@ def commands(script):
 
 
 class Live(Client):
-    """A client that says a few commands of its script at once, and the next ones when it has heard the replies."""
+    """A client that says a few commands of its script at once,
+    and the next ones when it has heard the replies."""
 
     def __init__(self, name, script, draw):
         super().__init__(name)
@@ -35,7 +38,8 @@ class Live(Client):
         self.go_on()
 
     def go_on(self):
-        """Says the next commands, if it has heard all replies, and closes its pipe behind the last ones."""
+        """Says the next commands, if it has heard all replies,
+        and closes its pipe behind the last ones."""
         if self.awaited > self.heard.count(b"\n") or self.said is None:
             return
         count = self.draw.randint(1, 8)
@@ -71,7 +75,8 @@ def talk(clients):
 
 
 def host(shape, names, scripts, draw, *options):
-    """Starts a host of clients of these names, which go through these scripts: how it ended, and what each was told."""
+    """Starts a host of clients of these names, which go through these scripts: how it ended,
+    and what each was told."""
     make_pipes(names)
     process, *ends = start([EXCHANGE, "host", shape, *names, *options])
     try:

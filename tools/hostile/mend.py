@@ -1,4 +1,5 @@
-"""What a second line says is wanted, put where it says so. The texts must then be refused otherwise, or told of otherwise, or not refused at all.
+"""What a second line says is wanted, put where it says so. The texts must then be refused
+otherwise, or told of otherwise, or not refused at all.
 
 This is plain Python that shares no code with the product, as plain.py.
 """
@@ -8,10 +9,15 @@ import re
 import notes
 import plain
 
-# A line of each form that a second line may say is wanted, by what it says of the form first. The entries of a text are counted in its line 1.
+# A line of each form that a second line may say is wanted, by what it says of the form first. The
+# entries of a text are counted in its line 1.
 RIGHT = {
-    '"batch N"': "batch {}", '"push I b R c"': "push 0 0 0 0", '"moves N"': "moves {}", '"move M b N c"': "move 0 0 0 0",
-    '"wiring N"': "wiring {}", '"module M link 0 at A link 3 at B"': "module {} link 0 at {} link 3 at {}", '"settings S"': "settings {}", '"setting T U .."': "setting", '"busiest link E module M"': "busiest link 0 module 0", '"named T U .."': "named 0",
+    '"batch N"': "batch {}", '"push I b R c"': "push 0 0 0 0", '"moves N"': "moves {}",
+    '"move M b N c"': "move 0 0 0 0",
+    '"wiring N"': "wiring {}",
+    '"module M link 0 at A link 3 at B"': "module {} link 0 at {} link 3 at {}",
+    '"settings S"': "settings {}", '"setting T U .."': "setting",
+    '"busiest link E module M"': "busiest link 0 module 0", '"named T U .."': "named 0",
 }  # fmt: skip
 FIRST = {"batch": "batch {}", "moves": "moves {}", "schedule": "settings {}"}
 
@@ -23,19 +29,23 @@ def module_behind(lines):
 
 
 def numbers_for(kind, lines, number, entries):
-    """The numbers that a line has where it is mended: how many entries there are, in the first line. In the line of a module they are its
-    number and two links of the switch that no line above has."""
+    """The numbers that a line has where it is mended: how many entries there are, in the first
+    line. In the line of a module they are its number and two links of the switch that no line above
+    has."""
     if kind != "wiring":
         return [entries]
     if number == 1:
         return [min(max(entries, 1), plain.JOINED)]
     taken = {int(it) for line in lines[1 : number - 1] for it in re.findall(rb" at (\d+)", line)}
-    return [module_behind(lines[: number - 1]), *[it for it in range(plain.PORTS) if it not in taken][:2]]
+    return [
+        module_behind(lines[: number - 1]),
+        *[it for it in range(plain.PORTS) if it not in taken][:2],
+    ]
 
 
 def mended_text(kind, text, number, told):
-    """The text with what is told to be wanted in a line, or with the right number of entries, or without what comes after the last line, or
-    with a line feed at its end."""
+    """The text with what is told to be wanted in a line, or with the right number of entries, or
+    without what comes after the last line, or with a line feed at its end."""
     lines, entries = text.split(b"\n"), len(re.findall(rb"(?m)^" + notes.KINDS[kind][1], text))
     if told.endswith("; nothing may follow\n"):
         return b"".join(line + b"\n" for line in lines[: number - 1])
@@ -52,7 +62,9 @@ def mended_text(kind, text, number, told):
 
 def mended(asked, refusal):
     """What is asked, with its text mended; None where the refusal is of no line's form."""
-    found = re.fullmatch(rb"refused (?:(batch|moves|schedule|wiring) line (\d+)|count|too many)\n?", refusal)
+    found = re.fullmatch(
+        rb"refused (?:(batch|moves|schedule|wiring) line (\d+)|count|too many)\n?", refusal
+    )
     if not found:
         return None
     kind = found[1].decode() if found[1] in (b"schedule", b"wiring") else asked.kind

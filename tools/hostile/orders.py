@@ -1,5 +1,6 @@
-"""What `orders` tells, a second time: plain Python, as plain.py, that shares no code with the product. It was written from the rules as
-docs/ORDERS.md states them. And modules that obey it: they read the text alone, over links that are joined as each setting wants."""
+"""What `orders` tells, a second time: plain Python, as plain.py, that shares no code with the
+product. It was written from the rules as docs/ORDERS.md states them. And modules that obey it: they
+read the text alone, over links that are joined as each setting wants."""
 
 from collections import defaultdict
 
@@ -7,14 +8,16 @@ import plain
 
 
 def links_of(transfer):
-    """The link that sends the words of a transfer, and the one that receives them, each (module, link)."""
+    """The link that sends the words of a transfer, and the one that receives them,
+    each (module, link)."""
     kind, initiator, _, responder, _ = transfer
     ends = (initiator, 0), (responder, 3)
     return ends if kind == "push" else ends[::-1]
 
 
 def orders_of(transfers, settings):
-    """What each module does, by its number: the blocks that it copies, and its orders, each (setting, link, words, block)."""
+    """What each module does, by its number: the blocks that it copies, and its orders, each
+    (setting, link, words, block)."""
     standing = {t: k for k, setting in enumerate(settings) for t in setting}
     changed = {}
     for t, transfer in enumerate(transfers):
@@ -39,12 +42,16 @@ def orders_text(transfers, settings, only=None):
     for module, (copies, orders) in told.items():
         lines.append(f"module {module} copies {len(copies)} orders {len(orders)}")
         lines += [f"copy block {block}" for block in copies]
-        lines += [f"setting {setting} link {link} {words} {block}" for setting, link, words, block in orders]
+        lines += [
+            f"setting {setting} link {link} {words} {block}"
+            for setting, link, words, block in orders
+        ]
     return "".join(line + "\n" for line in lines).encode()
 
 
 def read_orders(text):
-    """What a text tells each module, by its number: the blocks that it copies, and its orders, each (setting, link, verb, what, block)."""
+    """What a text tells each module, by its number: the blocks that it copies, and its orders, each
+    (setting, link, verb, what, block)."""
     told = {}
     for line in text.decode().splitlines()[1:]:
         words = line.split(" ")
@@ -58,7 +65,8 @@ def read_orders(text):
 
 
 def pass_words(draw, pairs, orders, store, aside, is_cut=False):
-    """Moves all words of a setting between the links of its pairs, one at a time and in any order, or leaves off before some of them."""
+    """Moves all words of a setting between the links of its pairs, one at a time and in any order,
+    or leaves off before some of them."""
     wires = []
     for one, other in pairs:
         sends, receives = (one, other) if orders[one][0] == "send" else (other, one)
@@ -66,7 +74,12 @@ def pass_words(draw, pairs, orders, store, aside, is_cut=False):
             return False
         _, what, block = orders[sends]
         source = (sends[0], block)
-        wires.append((aside[source] if what == "copy" else store[source], store[receives[0], orders[receives][2]]))
+        wires.append(
+            (
+                aside[source] if what == "copy" else store[source],
+                store[receives[0], orders[receives][2]],
+            )
+        )
     steps = [wire for wire in wires for _ in wire[0]]
     draw.shuffle(steps)
     passed = defaultdict(int)
@@ -78,18 +91,29 @@ def pass_words(draw, pairs, orders, store, aside, is_cut=False):
 
 
 def are_moved(draw, transfers, settings, text):
-    """Whether modules that obey the text move all blocks, by links that each setting of a schedule joins. A block has three words. One setting in
-    three is left within its words, and done once more."""
+    """Whether modules that obey the text move all blocks, by links that each setting of a schedule
+    joins. A block has three words. One setting in three is left within its words, and done once
+    more."""
     told = read_orders(text)
-    places = {place for transfer in transfers for place in (plain.source(transfer), plain.destination(transfer))}
+    places = {
+        place
+        for transfer in transfers
+        for place in (plain.source(transfer), plain.destination(transfer))
+    }
     store = {(module, block): [(module, block, j) for j in range(3)] for module, block in places}
     wanted = {place: list(words) for place, words in store.items()}
     for transfer in transfers:
         wanted[plain.destination(transfer)] = list(store[plain.source(transfer)])
-    aside = {(module, block): list(store[module, block]) for module, (copies, _) in told.items() for block in copies}
+    aside = {
+        (module, block): list(store[module, block])
+        for module, (copies, _) in told.items()
+        for block in copies
+    }
     for k, setting in enumerate(settings):
         pairs = [((transfers[t][1], 0), (transfers[t][3], 3)) for t in setting]
-        orders = {(m, link): act for m, (_, own) in told.items() for when, link, *act in own if when == k}
+        orders = {
+            (m, link): act for m, (_, own) in told.items() for when, link, *act in own if when == k
+        }
         if set(orders) != {link for pair in pairs for link in pair}:
             return False
         cuts = [True, False] if draw.random() < 1 / 3 else [False]
@@ -99,7 +123,8 @@ def are_moved(draw, transfers, settings, text):
 
 
 def answer_orders(batch, schedule, only=None):
-    """What `orders` answers to the texts of a batch and of a schedule. A certificate isn't looked at."""
+    """What `orders` answers to the texts of a batch and of a schedule.
+    A certificate isn't looked at."""
     try:
         transfers = plain.read_batch(batch, plain.WIDEST)
         settings, _ = plain.read_schedule(schedule)
@@ -113,6 +138,7 @@ def answer_orders(batch, schedule, only=None):
 
 
 def is_obeyed(draw, batch, schedule, answer):
-    """Whether modules that obey an answer of `orders` for all modules move the blocks of the batch."""
+    """Whether modules that obey an answer of `orders` for all modules move the blocks
+    of the batch."""
     settings, _ = plain.read_schedule(schedule)
     return are_moved(draw, plain.read_batch(batch, plain.WIDEST), settings, answer)

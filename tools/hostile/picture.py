@@ -1,5 +1,6 @@
-"""The picture of a schedule, a second time: plain Python, as plain.py, that shares no code with the product. It was written from the words
-of the product's contracts and of rows/draw.rows. Only the looks and the legend, which are fixed texts, are read where the product has them."""
+"""The picture of a schedule, a second time: plain Python, as plain.py, that shares no code with the
+product. It was written from the words of the product's contracts and of rows/draw.rows. Only the
+looks and the legend, which are fixed texts, are read where the product has them."""
 
 import re
 
@@ -32,15 +33,19 @@ STYLE, EXPLAINED = fixed_text("STYLE"), fixed_text("EXPLAINED")
 
 
 class Picture:
-    """What is drawn: transfers, their settings, the certificate, which names a link or None, or no certificate, and the numbers of those
-    settings that are shown. Of the answer that was told the number of changes is read that prices show."""
+    """What is drawn: transfers, their settings, the certificate, which names a link or None, or no
+    certificate, and the numbers of those settings that are shown. Of the answer that was told the
+    number of changes is read that prices show.
+    """
 
     def __init__(self, transfers, settings, certificate, shown, told=b""):
         self.transfers, self.settings, self.shown, self.told = transfers, settings, shown, told
         busiest, named = plain.busiest(transfers)
         self.fewest = len(named)
         self.standing = standing_of(transfers, settings, certificate)
-        self.link = certificate[0] if self.standing == "certified" else busiest if transfers else None
+        self.link = (
+            certificate[0] if self.standing == "certified" else busiest if transfers else None
+        )
         self.modules = sorted({transfer[side] for transfer in transfers for side in (1, 3)})
         self.panels = [range(at, min(at + PANEL, len(shown))) for at in range(0, len(shown), PANEL)]
 
@@ -49,7 +54,8 @@ class Picture:
         return ABOVE + ROW * self.modules.index(module) + (HALF if end == 3 else 0)
 
     def left(self, column):
-        """Where a column begins: left of it stand the labels of its panel and of all panels before."""
+        """Where a column begins: left of it stand the labels of its panel
+        and of all panels before."""
         return BESIDE + LABELS * (1 + column // PANEL) + COLUMN * column
 
     def heading(self):
@@ -59,8 +65,8 @@ class Picture:
         return f"transfers {len(self.transfers)}, settings {count}, {length}"
 
     def note(self):
-        """How often the switch changes, and what is shown of that; which link is framed, how the certificate stands, and which settings are
-        shown, unless that are all."""
+        """How often the switch changes, and what is shown of that; which link is framed, how the
+        certificate stands, and which settings are shown, unless that are all."""
         changes = steady.bound_words(self.transfers, self.settings, self.told)
         busiest = "link {} module {}".format(*self.link) if self.link else "none"
         return f"{changes}, busiest {busiest}, {self.standing}{self.range_shown()}"
@@ -78,49 +84,86 @@ class Picture:
         height = legend + BELOW
         heading, note = self.heading(), self.note()
         parts = [
-            f"<svg xmlns='http://www.w3.org/2000/svg' width='{width}' height='{height}' viewBox='0 0 {width} {height}'>\n",
+            (
+                f"<svg xmlns='http://www.w3.org/2000/svg' width='{width}' height='{height}' "
+                f"viewBox='0 0 {width} {height}'>\n"
+            ),
             f"<title>{heading}, {note}</title>\n{STYLE}",
-            f"<rect class='paper' width='{width}' height='{height}'/>\n<text class='heading' x='16' y='36'>{heading}</text>\n",
+            (
+                f"<rect class='paper' width='{width}' height='{height}'/>\n"
+                f"<text class='heading' x='16' y='36'>{heading}</text>\n"
+            ),
             f"<text class='note' x='16' y='58'>{note}</text>\n",
         ]
         parts += [self.row_part(module, panel) for module in self.modules for panel in self.panels]
         parts += [number_above(self.left(panel[0]) - 24, "setting") for panel in self.panels]
-        parts += [self.rule(column, number) + self.column(column, number) for column, number in enumerate(self.shown)]
+        parts += [
+            self.rule(column, number) + self.column(column, number)
+            for column, number in enumerate(self.shown)
+        ]
         parts.append(f"<g transform='translate(16,{legend})'>\n{EXPLAINED}</g>\n</svg>\n")
         return "".join(parts)
 
     def row_part(self, module, panel):
         """A module's label and the grounds of its two links, in one panel."""
         labels, top = self.left(panel[0]) - LABELS, self.top(module, 0)
-        text = rectangle(labels + 8, top, 72, 40, module) + writing(labels + 44, top + 24, f"module {module}") + "\n"
+        text = (
+            rectangle(labels + 8, top, 72, 40, module)
+            + writing(labels + 44, top + 24, f"module {module}")
+            + "\n"
+        )
         for end in (0, 3):
             is_busiest, top = (end, module) == self.link, self.top(module, end)
-            text += f"<g class='{'busiest' if is_busiest else 'lane'}'><title>{'busiest ' * is_busiest}link {end} module {module}</title>"
-            text += rectangle(labels + LABELS, top, COLUMN * len(panel), HALF) + writing(labels + 104, top + 14, f"link {end}") + "</g>\n"
+            text += (
+                f"<g class='{'busiest' if is_busiest else 'lane'}'>"
+                f"<title>{'busiest ' * is_busiest}link {end} module {module}</title>"
+            )
+            text += (
+                rectangle(labels + LABELS, top, COLUMN * len(panel), HALF)
+                + writing(labels + 104, top + 14, f"link {end}")
+                + "</g>\n"
+            )
         return text
 
     def rule(self, column, number):
-        """A line before the first setting, and before each that joins other pairs of modules than the one before."""
-        pairs = [{self.transfers[t][1::2] for t in setting} for setting in self.settings[max(number - 1, 0) : number + 1]]
+        """A line before the first setting, and before each
+        that joins other pairs of modules than the one before."""
+        pairs = [
+            {self.transfers[t][1::2] for t in setting}
+            for setting in self.settings[max(number - 1, 0) : number + 1]
+        ]
         if len(pairs) == 2 and pairs[0] == pairs[1]:
             return ""
-        return f"<path class='change' d='M{self.left(column)} {ABOVE - 8}V{ABOVE + ROW * len(self.modules) - 8}'/>\n"
+        return (
+            f"<path class='change' d='M{self.left(column)} "
+            f"{ABOVE - 8}V{ABOVE + ROW * len(self.modules) - 8}'/>\n"
+        )
 
     def column(self, column, number):
         """A setting's number, and two cells for each of its transfers."""
         left = self.left(column)
-        return number_above(left + 16, number) + "".join(self.cell(t, end, left) for t in self.settings[number] for end in (0, 3))
+        return number_above(left + 16, number) + "".join(
+            self.cell(t, end, left) for t in self.settings[number] for end in (0, 3)
+        )
 
     def cell(self, t, end, left):
-        """A transfer as one of its two modules sees it: link 0 starts it, link 3 answers it. The words of a push leave the module that
-        starts it, those of a pull the one that answers."""
+        """A transfer as one of its two modules sees it: link 0 starts it, link 3 answers it. The
+        words of a push leave the module that starts it, those of a pull the one that answers."""
         kind, initiator, own, responder, far = self.transfers[t]
         module, partner = (initiator, responder) if end == 0 else (responder, initiator)
         leaves = (kind == "push") == (end == 0)
         top, arrow = self.top(module, end), "&#8594;" if leaves else "&#8592;"
         way = {"push": "to", "pull": "from"}[kind]
-        text = f"<g><title>transfer {t}: {kind} module {initiator} link 0 block {own} {way} module {responder} link 3 block {far}</title>"
-        return text + rectangle(left + 2, top + 2, 28, 16, partner) + writing(left + 16, top + 14, f"{arrow}{partner}") + "</g>\n"
+        text = (
+            f"<g><title>transfer {t}: {kind} module {initiator} link 0 block {own} {way} module "
+            f"{responder} link 3 block {far}</title>"
+        )
+        return (
+            text
+            + rectangle(left + 2, top + 2, 28, 16, partner)
+            + writing(left + 16, top + 14, f"{arrow}{partner}")
+            + "</g>\n"
+        )
 
 
 def standing_of(transfers, settings, certificate):
@@ -158,7 +201,8 @@ def read_range(text):
 
 
 def answer_draw(batch, schedule, settings=None, told=b""):
-    """What `draw` prints of two texts, and of that of a range, if there is one. Told is what it printed."""
+    """What `draw` prints of two texts, and of that of a range, if there is one.
+    Told is what it printed."""
     try:
         wanted = None if settings is None else read_range(settings)
         transfers = plain.read_batch(batch, plain.WIDEST)

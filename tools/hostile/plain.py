@@ -1,7 +1,7 @@
 """The controller's texts, judged a second time.
 
-This is plain Python that shares no code with the product. It was written from the rules of the texts as docs/ states
-them, for clearness alone: nothing here is quick, and nothing is clever.
+This is plain Python that shares no code with the product. It was written from the rules of the
+texts as docs/ states them, for clearness alone: nothing here is quick, and nothing is clever.
 """
 
 import re
@@ -22,7 +22,15 @@ SETTINGS = re.compile(rb"settings " + NUMBER)
 SETTING = re.compile(rb"setting((?: (?:0|[1-9][0-9]{0,8}))*)")
 BUSIEST = re.compile(rb"busiest link ([03]) module " + NUMBER)
 WIRING = re.compile(rb"wiring " + NUMBER)
-WIRED = re.compile(rb"module " + NUMBER + rb" link 0 (?:at " + NUMBER + rb"|none) link 3 (?:at " + NUMBER + rb"|none)")
+WIRED = re.compile(
+    rb"module "
+    + NUMBER
+    + rb" link 0 (?:at "
+    + NUMBER
+    + rb"|none) link 3 (?:at "
+    + NUMBER
+    + rb"|none)"
+)
 NAMED = re.compile(rb"named((?: (?:0|[1-9][0-9]{0,8}))+)")
 
 
@@ -40,13 +48,15 @@ def read_shape(text):
 
 
 def line_at(text, at):
-    """The line that begins at a place, without its line feed, and where the next one begins. No line: None."""
+    """The line that begins at a place, without its line feed, and where the next one begins.
+    No line: None."""
     end = text.find(b"\n", at)
     return (None, at) if end < 0 else (text[at:end], end + 1)
 
 
 def read_lines(text, shape, name, first, form):
-    """The lines of a text that counts them: of each its first word, and its four numbers, which name two blocks of the shape."""
+    """The lines of a text that counts them: of each its first word, and its four numbers, which
+    name two blocks of the shape."""
     line, at = line_at(text, 0)
     found = line is not None and first.fullmatch(line)
     if not found:
@@ -88,8 +98,8 @@ def numbers(words):
 
 
 def read_schedule(text):
-    """The settings of a schedule text, and its certificate: None where the text has no such part, else the link, which is None
-    for `busiest none`, and the named transfers."""
+    """The settings of a schedule text, and its certificate: None where the text has no such part,
+    else the link, which is None for `busiest none`, and the named transfers."""
     at, number = 0, 0
 
     def next_line(form):
@@ -121,8 +131,8 @@ def read_schedule(text):
 
 
 def read_wiring(text):
-    """The wiring that a text says: of each module that is there the two links of the switch that its link 0 and its link 3 are on, or None
-    where one is on none."""
+    """The wiring that a text says: of each module that is there the two links of the switch that
+    its link 0 and its link 3 are on, or None where one is on none."""
     line, at = line_at(text, 0)
     found = line is not None and WIRING.fullmatch(line)
     if not found or not 1 <= int(found[1]) <= JOINED:
@@ -133,7 +143,11 @@ def read_wiring(text):
         found = line is not None and WIRED.fullmatch(line)
         module, *links = (it and int(it) for it in found.groups()) if found else (-1,)
         taken += [link for link in links if link is not None]
-        if not least <= module < JOINED or max(taken, default=0) >= PORTS or len(set(taken)) < len(taken):
+        if (
+            not least <= module < JOINED
+            or max(taken, default=0) >= PORTS
+            or len(set(taken)) < len(taken)
+        ):
             raise Refused(f"wiring line {number}")
         wiring[module], least = tuple(links), module + 1
     if at != len(text):
@@ -247,9 +261,10 @@ def answer_plan(text):
 
 
 def is_plan(text, answer):
-    """Whether the answer is a plan of the batch text: a schedule of its transfers with as many settings as the busiest link has
-    uses, none of them empty, and the certificate that names that link and all its transfers. Numbers ascend in each setting, and
-    settings come by their least numbers."""
+    """Whether the answer is a plan of the batch text: a schedule of its transfers with as many
+    settings as the busiest link has uses, none of them empty, and the certificate that names that
+    link and all its transfers. Numbers ascend in each setting, and settings come by their least
+    numbers."""
     transfers = read_batch(text, WIDEST)
     try:
         settings, certificate = read_schedule(answer)
@@ -281,7 +296,8 @@ def answer_check(batch, schedule):
 
 
 def planned(transfers):
-    """How many settings a plan has, and the lines that tell how often it changes the switch: none."""
+    """How many settings a plan has, and the lines
+    that tell how often it changes the switch: none."""
     return len(busiest(transfers)[1]), []
 
 
@@ -309,7 +325,8 @@ def read_image(shape, image):
 
 
 def answer_run(shape, batch, image=None, run_by=planned):
-    """What `run` answers, where run_by tells of the schedule of transfers what `planned` tells of a plan, or refuses it."""
+    """What `run` answers, where run_by tells of the schedule of transfers what `planned` tells
+    of a plan, or refuses it."""
     try:
         shape = read_shape(shape)
         transfers = read_batch(batch, shape)
@@ -352,8 +369,8 @@ def refusal_of_moves(text):
 
 
 def is_directed(text, answer):
-    """Whether the answer is a batch text of the moves, in their order, and each link has at most half of the ends that its module has of
-    moves, rounded up."""
+    """Whether the answer is a batch text of the moves, in their order, and each link has at most
+    half of the ends that its module has of moves, rounded up."""
     moves = read_moves(text)
     try:
         transfers = read_batch(answer, WIDEST)

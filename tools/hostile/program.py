@@ -9,25 +9,38 @@ from collections import namedtuple
 TOP = os.path.dirname(os.path.dirname(os.path.dirname(os.path.abspath(__file__))))
 EXCHANGE = os.path.abspath(os.environ.get("EXCHANGE") or f"{TOP}/crates/exchange/out/exchange")
 
-# Where folders for files are made that the program syncs: in memory, where there is such a place, since a disk makes it wait.
+# Where folders for files are made that the program syncs: in memory,
+# where there is such a place, since a disk makes it wait.
 ROOMS = "/dev/shm" if os.access("/dev/shm", os.W_OK) else None
 
-# Seconds that a run has. Most take far less than one, but machines differ, and others may keep this one busy.
+# Seconds that a run has. Most take far less than one, but machines differ,
+# and others may keep this one busy.
 LIMIT = 300
 
-# What came on standard output and on standard error, and the status; below 0 the signal that ended it, and None where it had to be killed.
+# What came on standard output and on standard error, and the status; below 0 the signal that ended
+# it, and None where it had to be killed.
 Ended = namedtuple("Ended", "out err status")
 
 
 def start(words, env=None, out=None, given=os.devnull, called=None):
-    """Starts a program with these words, the first of which is also what it is called where no name is given, and with the file `given` on
-    standard input: its process, and the ends of its standard output, which is None where `out` names a descriptor for it, and of its standard
-    error."""
+    """Starts a program with these words, the first of which is also what it is called where no name
+    is given, and with the file `given` on standard input: its process, and the ends of its standard
+    output, which is None where `out` names a descriptor for it, and of its standard error."""
     read = os.open(given, os.O_RDONLY)
     err_end, err = os.pipe()
     out_end, ours = (None, out) if out is not None else os.pipe()
-    moves = [(os.POSIX_SPAWN_DUP2, read, 0), (os.POSIX_SPAWN_DUP2, ours, 1), (os.POSIX_SPAWN_DUP2, err, 2)]
-    process = os.posix_spawn(words[0], [called or words[0], *words[1:]], env or {}, file_actions=moves, setsigdef=[signal.SIGPIPE])
+    moves = [
+        (os.POSIX_SPAWN_DUP2, read, 0),
+        (os.POSIX_SPAWN_DUP2, ours, 1),
+        (os.POSIX_SPAWN_DUP2, err, 2),
+    ]
+    process = os.posix_spawn(
+        words[0],
+        [called or words[0], *words[1:]],
+        env or {},
+        file_actions=moves,
+        setsigdef=[signal.SIGPIPE],
+    )
     for it in [read, err] + ([ours] if out is None else []):
         os.close(it)
     return process, out_end, err_end
@@ -50,7 +63,8 @@ def gather(ends, seconds):
 
 
 def end(process, out_end, err_end, seconds=LIMIT):
-    """Waits for the end of what was started. What isn't at its end after so many seconds is killed."""
+    """Waits for the end of what was started. What isn't at its end
+    after so many seconds is killed."""
     ends = [it for it in (out_end, err_end) if it is not None]
     texts = gather(ends, seconds)
     if texts is None:

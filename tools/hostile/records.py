@@ -1,4 +1,5 @@
-"""Records of sessions, replayed a second time: plain Python, as plain.py, that shares no code with the product."""
+"""Records of sessions, replayed a second time: plain Python, as plain.py,
+that shares no code with the product."""
 
 import math
 import re
@@ -24,12 +25,15 @@ SUBMITTED = re.compile(NUMBER + rb" batch " + NUMBER + rb"\n")
 # What is wanted in the first line, and in that of a call, as the line on standard error says it.
 ENDED = f"{notes.RULES}, a line feed at its end"
 HEAD_WANTED = (
-    '"record-2 MxKxW SUM N", where MxKxW is its shape, SUM the sum of its image, of eight digits, and N, at most 16, counts the lines '
+    '"record-2 MxKxW SUM N", where MxKxW is its shape, SUM the sum of its image, of eight digits, '
+    "and N, at most 16, counts the lines "
     '"client NAME" after it, and then "=SUM", the sum of these lines'
 )
 CALL_WANTED = (
-    '"S CALL", where S is the number of a session, below the number of clients if the head names any, CALL is "batch N" and the batch\'s '
-    'lines, "fetch ID", "settle ID", "run ID", "show ID", "drop ID", "peek M A" or "poke M A D", ID is the number of a batch, M a module, A an '
+    '"S CALL", where S is the number of a session, below the number of clients if the head names '
+    'any, CALL is "batch N" and the batch\'s '
+    'lines, "fetch ID", "settle ID", "run ID", "show ID", "drop ID", "peek M A" or "poke M A D", '
+    "ID is the number of a batch, M a module, A an "
     f"address and D a word, of eight digits 0 to 9 and a to f each: {ENDED}"
 )
 
@@ -52,11 +56,21 @@ def settle(exchange, session, number):
 
 
 def run(exchange, session, number):
-    """A run, which is refused where the rack hasn't a block of its batch: in a record a batch may be one of a larger rack."""
+    """A run, which is refused where the rack hasn't a block of its batch:
+    in a record a batch may be one of a larger rack."""
     batch = exchange.batches.get(number)
-    if batch and batch["owner"] == session and batch["state"] == "planned" and not plain.first_overlap(batch["transfers"]):
+    if (
+        batch
+        and batch["owner"] == session
+        and batch["state"] == "planned"
+        and not plain.first_overlap(batch["transfers"])
+    ):
         modules, blocks, _ = exchange.shape
-        ends = [end for transfer in batch["transfers"] for end in (plain.source(transfer), plain.destination(transfer))]
+        ends = [
+            end
+            for transfer in batch["transfers"]
+            for end in (plain.source(transfer), plain.destination(transfer))
+        ]
         if any(module >= modules or block >= blocks for module, block in ends):
             exchange.enter()
             raise Refused("shape")
@@ -100,7 +114,8 @@ CALLS = [
 
 
 def batch_at(text, at, count):
-    """The transfers of a batch of so many that stands there, and where it ends; None where none does."""
+    """The transfers of a batch of so many that stands there, and where it ends;
+    None where none does."""
     end = at
     for _ in range(count + 1):
         line, end = plain.line_at(text, end)
@@ -113,13 +128,16 @@ def batch_at(text, at, count):
 
 
 def call_at(text, at):
-    """What answers the call that stands there, with what it names, and where the call ends; None where no call does."""
+    """What answers the call that stands there, with what it names, and where the call ends;
+    None where no call does."""
     line, end = plain.line_at(text, at)
     if line is None:
         return None
     announced = BATCH.fullmatch(line)
     if announced:
-        found = batch_at(text, at, int(announced[1])) if int(announced[1]) <= plain.TRANSFERS else None
+        found = (
+            batch_at(text, at, int(announced[1])) if int(announced[1]) <= plain.TRANSFERS else None
+        )
         return found and (submit, [found[0]], found[1])
     for form, answer, bases in CALLS:
         found = form.fullmatch(line)
@@ -129,16 +147,16 @@ def call_at(text, at):
 
 
 def entry_at(text, at):
-    """The session and the call that stand there: the session's number, what answers the call, what it names, and the places where the call
-    begins and ends. No entry: None."""
+    """The session and the call that stand there: the session's number, what answers the call, what
+    it names, and the places where the call begins and ends. No entry: None."""
     session = SESSION.match(text, at)
     call = session and call_at(text, session.end())
     return call and (int(session[1]), call[0], call[1], session.end(), call[2])
 
 
 def wrong_in_batch(text, at):
-    """Of the batch that a call hands in, the first wrong line's number in the record, and what is told of it. None where the call doesn't begin
-    with a session's number and a line `batch N`."""
+    """Of the batch that a call hands in, the first wrong line's number in the record, and what is
+    told of it. None where the call doesn't begin with a session's number and a line `batch N`."""
     head = SUBMITTED.match(text, at)
     if not head:
         return None
@@ -149,7 +167,12 @@ def wrong_in_batch(text, at):
         number, batch = number + 1, b"batch 1\n" + line
         refusal = plain.answer_plan(batch)
         if refusal:
-            return number, notes.of_text(notes.Asked("batch", ("", batch)), *notes.parts_of(refusal)).partition(" of the batch: ")[2]
+            return (
+                number,
+                notes.of_text(
+                    notes.Asked("batch", ("", batch)), *notes.parts_of(refusal)
+                ).partition(" of the batch: ")[2],
+            )
     return number + 1, notes.of_form(b"", 2, *notes.KINDS["batch"][2][1])
 
 
@@ -169,25 +192,35 @@ def end_of(count):
 
 
 def lines_at(text, at, number):
-    """The lines that stand there after so many entries, and where their sum ends. None: the record was torn off there."""
+    """The lines that stand there after so many entries, and where their sum ends. None:
+    the record was torn off there."""
     mark = text.find(b"=", at)
     feed = text.find(b"\n", mark) if mark >= 0 else -1
     if feed < 0 and LINED.fullmatch(text, at):
         return None
     if feed < 0 or text[mark : feed + 1] != sum_line(number, text[at:mark]):
-        wanted = f"the start of entry {number}, or of the end, with a right sum: a byte was changed, or lines were left out, added or moved"
+        wanted = (
+            f"the start of entry {number}, or of the end, with a right sum: a byte was changed, "
+            "or lines were left out, added or moved"
+        )
         raise Misrecorded(f"sum {number}", text, at, wanted)
     return text[at:mark], feed + 1
 
 
 def rack_line(shape, image, clients):
-    """The first line of a record: of a rack of this shape that begins with these words, and of so many clients."""
+    """The first line of a record: of a rack of this shape that begins with these words,
+    and of so many clients."""
     return b"record-2 %dx%dx%d %08x %d\n" % (*shape, zlib.adler32(image), clients)
 
 
 def head_of(shape, image, names):
-    """The head of a record: of a rack of this shape that begins with these words, and of clients of these names."""
-    return summed(0, rack_line(shape, image, len(names)) + b"".join(b"client %b\n" % name.encode() for name in names))
+    """The head of a record: of a rack of this shape that begins with these words,
+    and of clients of these names."""
+    return summed(
+        0,
+        rack_line(shape, image, len(names))
+        + b"".join(b"client %b\n" % name.encode() for name in names),
+    )
 
 
 def head_in(text):
@@ -205,7 +238,12 @@ def head_in(text):
         line, end = plain.line_at(text, at)
         client = line is not None and CLIENT.fullmatch(line)
         if not client or client[1] in names:
-            raise Misrecorded("head", text, at, '"client NAME", where NAME isn\'t empty and no client above has it')
+            raise Misrecorded(
+                "head",
+                text,
+                at,
+                '"client NAME", where NAME isn\'t empty and no client above has it',
+            )
         names.append(client[1])
         at = end
     if not text.startswith(sum_line(0, text[:at]), at):
@@ -214,34 +252,44 @@ def head_in(text):
 
 
 class Misrecorded(Refused):
-    """What is first wrong with a record, the number of the line where it is, and what is told of that, by what is wanted there. Nothing may be."""
+    """What is first wrong with a record, the number of the line where it is, and what is told of
+    that, by what is wanted there. Nothing may be."""
 
     def __init__(self, what, text, at, wanted):
         super().__init__(f"record {what}")
         self.line = text.count(b"\n", 0, at) + 1
-        self.told = f"{notes.quoted(notes.line_of(text, self.line))} comes after the last line; nothing may follow"
+        self.told = (
+            f"{notes.quoted(notes.line_of(text, self.line))} comes after the last line; "
+            "nothing may follow"
+        )
         if wanted:
             self.told = notes.of_form(text, self.line, None, wanted)
         if wanted is HEAD_WANTED and text:
-            self.told = f"{notes.quoted(notes.line_of(text, 1))} doesn't begin a record of this rack; expected {wanted}"
+            self.told = (
+                f"{notes.quoted(notes.line_of(text, 1))} doesn't begin a record of this rack; "
+                f"expected {wanted}"
+            )
 
 
 class OtherHead(Misrecorded):
-    """The head of a record on another rack than the one that begins with this image, or with zeros, and whose head has this first line."""
+    """The head of a record on another rack than the one that begins with this image, or with zeros,
+    and whose head has this first line."""
 
     def __init__(self, text, due, image):
         super().__init__("head", text, 0, HEAD_WANTED)
         words = "whose words are 0" if image is None else "with the words of --image"
         self.told = (
-            f"{notes.quoted(notes.line_of(text, 1))}; this command's rack, {words}, has {notes.quoted(due[:-1])} there: --image takes the "
+            f"{notes.quoted(notes.line_of(text, 1))}; this command's rack, {words}, "
+            f"has {notes.quoted(due[:-1])} there: --image takes the "
             "record's words, and --shape its shape"
         )
 
 
 class Replay:
-    """A record, replayed: its whole entries, each the session, the call's text and the reply, and the exchange that is left. `ends` are the places
-    where the head and each of them end, `rest` is what stands behind, and `ended` says whether that is the end. A shape that is given has to
-    be the record's. So many entries are replayed, where a number is given."""
+    """A record, replayed: its whole entries, each the session, the call's text and the reply, and
+    the exchange that is left. `ends` are the places where the head and each of them end, `rest` is
+    what stands behind, and `ended` says whether that is the end. A shape that is given has to be
+    the record's. So many entries are replayed, where a number is given."""
 
     def __init__(self, text, shape=None, image=None, first=None):
         own, self.names, at = head_in(text)
@@ -270,7 +318,9 @@ class Replay:
         """Replays the entry of these lines, which stand there."""
         number, found = len(self.entries), entry_at(lines, 0)
         if not found or found[0] >= limit_of(self.names):
-            fault = Misrecorded(f"call {number}", text, at, f"the call of entry {number}, {CALL_WANTED}")
+            fault = Misrecorded(
+                f"call {number}", text, at, f"the call of entry {number}, {CALL_WANTED}"
+            )
             session = SESSION.match(text, at)
             if session and int(session[1]) < limit_of(self.names):
                 fault.line, fault.told = wrong_in_batch(text, at) or (fault.line, fault.told)
@@ -281,19 +331,27 @@ class Replay:
         except Refused as why:
             reply = f"refused {why}"
         if lines[end:] != reply.encode() + b"\n":
-            raise Misrecorded(f"reply {number}", text, at + end, f"the reply of entry {number}, {notes.quoted(reply.encode())}")
+            raise Misrecorded(
+                f"reply {number}",
+                text,
+                at + end,
+                f"the reply of entry {number}, {notes.quoted(reply.encode())}",
+            )
         self.entries.append((session, lines[begin:end].decode(), reply))
 
 
 def answer_replay(text, name):
-    """What `replay` prints of a record in a file of this name, what is told on standard error, and the status. Nothing is told where the record can
-    be replayed, and has its end."""
+    """What `replay` prints of a record in a file of this name, what is told on standard error, and
+    the status. Nothing is told where the record can be replayed, and has its end."""
     try:
         replay = Replay(text)
     except Misrecorded as why:
         return f"refused {why}\n".encode(), f"exchange: {name}:{why.line}: {why.told}\n".encode(), 1
     count = len(replay.entries)
-    told = f"exchange: {name}: not ended: {count} whole {'entry' if count == 1 else 'entries'} in {replay.ends[-1]} bytes\n"
+    told = (
+        f"exchange: {name}: not ended: {count} whole {'entry' if count == 1 else 'entries'} in "
+        f"{replay.ends[-1]} bytes\n"
+    )
     return replay.exchange.image(), b"" if replay.ended else told.encode(), 0
 
 
@@ -303,7 +361,10 @@ def call_by(draw, shape, number):
         return spoil.batch(draw, shape, 4)
     if draw.random() < 0.3:
         return spoil.memory_line(draw, shape, range(shape[0])).encode()
-    return f"{draw.choice(['fetch', 'settle', 'settle', 'run', 'run', 'show', 'drop'])} {draw.randint(1, number)}\n".encode()
+    return (
+        f"{draw.choice(['fetch', 'settle', 'settle', 'run', 'run', 'show', 'drop'])} "
+        f"{draw.randint(1, number)}\n"
+    ).encode()
 
 
 def made(draw, shape, sessions, count):
@@ -321,16 +382,25 @@ def made(draw, shape, sessions, count):
 
 
 def spelled(shape, entries, clients, ended=True):
-    """The record of these entries on a rack that begins with zeros, by so many clients with names, with its end or without it."""
+    """The record of these entries on a rack that begins with zeros, by so many clients with names,
+    with its end or without it."""
     names = [f"client-{number}" for number in range(clients)]
-    return head_of(shape, Exchange(shape).image(), names) + b"".join(entries) + (end_of(len(entries)) if ended else b"")
+    return (
+        head_of(shape, Exchange(shape).image(), names)
+        + b"".join(entries)
+        + (end_of(len(entries)) if ended else b"")
+    )
 
 
 def other_word(draw, number, entry):
     """An entry of this number, with another word in its reply, and the sum of that."""
     call, _, reply = entry.partition(b"=")[0][:-1].rpartition(b"\n")
     words = reply.split(b" ")
-    words[draw.randrange(len(words))] = str(draw.choice(spoil.EDGES)).encode() if draw.random() < 0.5 else draw.choice([b"word", b"poked", b"refused", b"ran"])
+    words[draw.randrange(len(words))] = (
+        str(draw.choice(spoil.EDGES)).encode()
+        if draw.random() < 0.5
+        else draw.choice([b"word", b"poked", b"refused", b"ran"])
+    )
     return summed(number, call + b"\n" + b" ".join(words) + b"\n")
 
 
@@ -340,9 +410,10 @@ def summed_anew(entries):
 
 
 def spoilt(draw, shape, entries):
-    """A record of a rack of this shape to which something was done, or nothing: a word of a reply changed, two entries exchanged, one left out, one
-    twice, one of another session, all of which mostly with right sums; any bytes of it; its end left out, or more; or the head of another rack. Its
-    head may name clients, maybe fewer than it has sessions."""
+    """A record of a rack of this shape to which something was done, or nothing: a word of a reply
+    changed, two entries exchanged, one left out, one twice, one of another session, all of which
+    mostly with right sums; any bytes of it; its end left out, or more; or the head of another rack.
+    Its head may name clients, maybe fewer than it has sessions."""
     entries, what, clients = list(entries), draw.randrange(10), draw.choice([0, 0, 2, 3])
     one, other = draw.randrange(len(entries)), draw.randrange(len(entries))
     if what == 0:

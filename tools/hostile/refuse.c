@@ -1,11 +1,14 @@
-// Refuses growths of memory and starts of threads of a program that is started with this library in LD_PRELOAD.
+// Refuses growths of memory and starts of threads of a program
+// that is started with this library in LD_PRELOAD.
 //
 // REFUSE=N       the Nth growth is refused, counted from 1
 // REFUSE=N+      the Nth growth is refused, and all later ones
 // REFUSE=T       each start of a thread is refused
-// REFUSE_BETWEEN=1     only growths and starts between two marks count. The program sets the marks by writing to standard error:
-//                what begins with "[" starts the count, and what begins with "]" ends it
-// REFUSE_LOG=FILE      holds three numbers of 8 bytes: growths met, growths refused, and starts of threads refused
+// REFUSE_BETWEEN=1     only growths and starts between two marks count. The program sets the marks
+//                by writing to standard error: what begins with "[" starts the count, and what
+//                begins with "]" ends it
+// REFUSE_LOG=FILE      holds three numbers of 8 bytes: growths met, growths refused, and starts of
+//                threads refused
 #define _GNU_SOURCE
 #include <dlfcn.h>
 #include <errno.h>
@@ -19,7 +22,8 @@
 
 enum { MET, REFUSED, UNSTARTED, NUMBERS };
 static atomic_long own[NUMBERS];
-// The log itself: a program may end without running what the C library runs at its exit, and its threads count side by side.
+// The log itself: a program may end without running what the C library runs at its exit,
+// and its threads count side by side.
 static atomic_long *numbers = own;
 static atomic_int counts;
 static long first;

@@ -3,9 +3,10 @@
 #
 #   judges    what judges answers here is handed wrong ones
 #   streams   files and streams that can't be read, and streams that can't be written
-#   growths   each growth of memory refused in turn, of the command line and of the calls that it doesn't make
-#   texts     COUNT spoilt texts of each kind, 10000 where it isn't said, judged by a second implementation as well. Of 10000
-#             classes.txt has how often each class of answer comes
+#   growths   each growth of memory refused in turn, of the command line and of the calls that it
+#             doesn't make
+#   texts     COUNT spoilt texts of each kind, 10000 where it isn't said, judged by a second
+#             implementation as well. Of 10000 classes.txt has how often each class of answer comes
 #   clients   COUNT / 10 rounds of sixteen clients at once, whose record both implementations replay
 #
 # Programs that aren't built yet, or are older than their sources, are proved and built first.
@@ -20,7 +21,8 @@ export PYTHONDONTWRITEBYTECODE=1
 
 "$top/exchange" prove
 calls=$top/crates/hostile_use/out/hostile_use
-if [ ! -x "$calls" ] || [ -n "$(find "$top/crates.txt" "$top"/crates/*/src "$top"/crates/*/specs -type f -newer "$calls" -print -quit)" ]; then
+if [ ! -x "$calls" ] || [ -n "$(find "$top/crates.txt" "$top"/crates/*/src "$top"/crates/*/specs \
+    -type f -newer "$calls" -print -quit)" ]; then
     echo "run.sh: proving and building hostile_use .." >&2
     touch "$work/began"
     (cd "$top/crates/hostile_use" && rt run) >"$work/log" 2>&1 || { cat "$work/log" >&2; exit 3; }

@@ -1,8 +1,10 @@
 #!/usr/bin/env python3
 """Puts sums into a record that is written by hand: sealed.py <TEXT >RECORD
 
-TEXT is a record without the lines of its sums, whose last line is `end`, if it has one. The head gets its sum if it is all there, and so does each
-entry: a call, with its batch's lines if it is `batch N` of at most 4096, and the line of its reply. What follows the last of them, or `end`, stays as it is.
+TEXT is a record without the lines of its sums, whose last line is `end`, if it has one. The head
+gets its sum if it is all there, and so does each entry: a call, with its batch's lines if it is
+`batch N` of at most 4096, and the line of its reply. What follows the last of them, or `end`, stays
+as it is.
 """
 
 import functools
@@ -14,8 +16,8 @@ COUNT = re.compile(rb"\d+ batch (0|[1-9]\d*)\n")
 
 @functools.lru_cache(1 << 16)
 def sum_line(number, lines):
-    """The line of the sum of these lines, which are those of the entry of this number, counted from 0. A head has the number 0, an end that of the
-    entry that would come."""
+    """The line of the sum of these lines, which are those of the entry of this number, counted
+    from 0. A head has the number 0, an end that of the entry that would come."""
     total = number % 2**32
     for byte in lines:
         total = (total * 2891336453 + byte) % 2**32

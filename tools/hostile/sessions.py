@@ -1,4 +1,5 @@
-"""An exchange and its sessions, a second time: plain Python, as plain.py, that shares no code with the product."""
+"""An exchange and its sessions, a second time: plain Python, as plain.py,
+that shares no code with the product."""
 
 import re
 
@@ -11,14 +12,17 @@ FIRST = 0x80000800
 
 
 class Exchange:
-    """A rack of zeros, or of an image's words, the batches that sessions have submitted, and how many calls there were. Of a record that is
-    written while calls are made there may be any number."""
+    """A rack of zeros, or of an image's words, the batches that sessions have submitted, and how
+    many calls there were. Of a record that is written while calls are made there may be any
+    number."""
 
     def __init__(self, shape, image=None, most=MOST_ENTRIES):
         self.shape, self.words, self.batches, self.most = shape, {}, {}, most
         if image is not None:
             word_at = plain.read_image(shape, image)
-            places = [(m, b, j) for m in range(shape[0]) for b in range(shape[1]) for j in range(shape[2])]
+            places = [
+                (m, b, j) for m in range(shape[0]) for b in range(shape[1]) for j in range(shape[2])
+            ]
             self.words = {place: word_at(*place) for place in places}
         self.entries = self.given = self.runs = 0
         self.reading = (0, 0)
@@ -104,7 +108,8 @@ class Exchange:
 
 
 class Session:
-    """A session that reads a script. Each refusal is kept with what was sent: a line, or a batch with its lines."""
+    """A session that reads a script. Each refusal is kept with what was sent: a line,
+    or a batch with its lines."""
 
     def __init__(self, exchange, number, script, is_done_unwritten=False):
         self.exchange, self.number, self.script, self.at = exchange, number, script, 0
@@ -128,9 +133,10 @@ class Session:
     def serve(self, told=None):
         """The bytes that the session writes, and behind them how it ended, if that was by a fault.
 
-        Where the lines are handed in that a session was told, each `refused no memory` among them is taken as it is: that command
-        has no effect. So is `ended no memory` in a batch. Of a session that `ended write` its last lines are taken as they are: the
-        command whose reply couldn't be kept is done or not, as was said when the session was made.
+        Where the lines are handed in that a session was told, each `refused no memory` among them
+        is taken as it is: that command has no effect. So is `ended no memory` in a batch. Of a
+        session that `ended write` its last lines are taken as they are: the command whose reply
+        couldn't be kept is done or not, as was said when the session was made.
         """
         told = iter(told) if told is not None else None
         while True:
@@ -148,7 +154,8 @@ class Session:
         return "".join(self.written) + (f"ended {self.ended}\n" if self.ended else "")
 
     def reply_to(self, line, told):
-        """The reply to a line: want of memory where that is what was told, and nothing else can be wrong with it."""
+        """The reply to a line: want of memory where that is what was told,
+        and nothing else can be wrong with it."""
         is_command = any(form.fullmatch(line) for form, _ in COMMANDS)
         if is_command and told in ("refused no memory", "ended no memory", "ended write"):
             if told == "ended write" and self.is_done_unwritten:
@@ -173,7 +180,11 @@ class Session:
     def take_lines(self, line):
         """Takes the lines of a batch, where the line announces one. Whether they are all there."""
         found = COMMANDS[0][0].fullmatch(line)
-        lines = [self.line(True) for _ in range(int(found[1]))] if found and int(found[1]) <= plain.TRANSFERS else []
+        lines = (
+            [self.line(True) for _ in range(int(found[1]))]
+            if found and int(found[1]) <= plain.TRANSFERS
+            else []
+        )
         return None not in lines
 
     def reply(self, line):
@@ -242,12 +253,16 @@ COMMANDS = [
 
 
 def answer_serve(shape, scripts, image=None):
-    """What `serve` prints of scripts whose replies don't depend on the order in which the sessions come, and its status."""
+    """What `serve` prints of scripts whose replies don't depend on the order in
+    which the sessions come, and its status."""
     try:
         exchange = Exchange(plain.read_shape(shape), image)
     except Refused as why:
         return f"refused {why}\n".encode(), 1
-    texts = [f"session {number}\n" + Session(exchange, number, script).serve() for number, script in enumerate(scripts)]
+    texts = [
+        f"session {number}\n" + Session(exchange, number, script).serve()
+        for number, script in enumerate(scripts)
+    ]
     return "".join(texts).encode(), int(any("\nended " in text for text in texts))
 
 
@@ -259,8 +274,9 @@ def answer_talk(shape, script):
 
 
 def told_without_memory(shape, scripts, text, image=None, is_done_unwritten=False):
-    """The exchange that is left where `serve` prints this of such scripts while some of its growths are refused; None where it may not. A command
-    whose reply couldn't be kept is done or not, as is said."""
+    """The exchange that is left where `serve` prints this of such scripts while some of its growths
+    are refused; None where it may not. A command whose reply couldn't be kept is done or not, as is
+    said."""
     exchange = Exchange(plain.read_shape(shape), image)
     rest = text.decode()
     for number, script in enumerate(scripts):

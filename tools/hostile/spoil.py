@@ -8,19 +8,24 @@ import re
 
 from plain import JOINED, MODULES, PORTS, TRANSFERS
 
-EDGES = [0, 1, 2, 3, 9, 10, 15, 16, 17, 31, 32, 33, 63, 64, 65, 255, 256, 257, 4095, 4096, 4097, 999999999, 1000000000, 2**32, 2**64]
-ODD = [b"", b"01", b"00", b"+1", b"-1", b"1.0", b"0x1", b"x", b" ", b"9" * 40, b"#1", b"\xef\xbb\xbf1"]
-BYTES = b"0123456789 \n\r\t\x00\xff-+xabefghiklmnprstuPUSH\\\"~\x1b\x1f\x7f\x80\xc3\xe2"
+EDGES = [
+    0, 1, 2, 3, 9, 10, 15, 16, 17, 31, 32, 33, 63, 64, 65, 255, 256, 257, 4095, 4096, 4097,
+    999999999, 1000000000, 2**32, 2**64,
+]  # fmt: skip
+ODD = [
+    b"", b"01", b"00", b"+1", b"-1", b"1.0", b"0x1", b"x", b" ", b"9" * 40, b"#1", b"\xef\xbb\xbf1",
+]  # fmt: skip
+BYTES = b'0123456789 \n\r\t\x00\xff-+xabefghiklmnprstuPUSH\\"~\x1b\x1f\x7f\x80\xc3\xe2'
 # Characters of names: those that are escaped at both ends of each range, and their neighbours.
 MARKS = (
-    "\x01\t\n\r\x1b\x1f !\"'\\~\x7f\x80\x9f\xa0ü\u061b\u061c\u061d\u200a\u200b\u200f\u2010\u2027\u2028\u202e\u202f\u205f\u2060\u206f\u2070"
-    "\ufefe\ufeff\uff00\U0001f600"
+    "\x01\t\n\r\x1b\x1f !\"'\\~\x7f\x80\x9f\xa0ü\u061b\u061c\u061d\u200a\u200b\u200f\u2010\u2027"
+    "\u2028\u202e\u202f\u205f\u2060\u206f\u2070\ufefe\ufeff\uff00\U0001f600"
 )
 
 
 def batch(draw, shape, most):
-    """A batch text whose transfers all fit the shape. In half of the batches no block is written twice; blocks that are read may be
-    written in any."""
+    """A batch text whose transfers all fit the shape. In half of the batches no block is written
+    twice; blocks that are read may be written in any."""
     modules, blocks, _ = shape
     count = draw.randint(0, most)
     apart = draw.random() < 0.5
@@ -29,14 +34,19 @@ def batch(draw, shape, most):
     while len(lines) < count and (free or not apart):
         kind = draw.choice(["push", "pull"])
         reads = (draw.randrange(modules), draw.randrange(blocks))
-        writes = divmod(free.pop(), blocks) if apart else (draw.randrange(modules), draw.randrange(blocks))
+        writes = (
+            divmod(free.pop(), blocks)
+            if apart
+            else (draw.randrange(modules), draw.randrange(blocks))
+        )
         own, far = (reads, writes) if kind == "push" else (writes, reads)
         lines.append(f"{kind} {own[0]} {own[1]} {far[0]} {far[1]}\n")
     return f"batch {len(lines)}\n".encode() + "".join(lines).encode()
 
 
 def pattern(draw):
-    """A batch text that has several transfers for each of a few pairs of links, mostly an even number of them."""
+    """A batch text that has several transfers for each of a few pairs of links,
+    mostly an even number of them."""
     modules = draw.choice([2, 3, 4, 6])
     lines = []
     for _ in range(draw.randint(1, 8)):
@@ -63,10 +73,16 @@ def halo(modules, width):
 def butterfly(modules):
     """Each module with those whose place differs in one bit."""
     places = range(len(modules))
-    return [(modules[k], modules[k ^ 1 << bit]) for bit in range(5) for k in places if k ^ 1 << bit in places]
+    return [
+        (modules[k], modules[k ^ 1 << bit])
+        for bit in range(5)
+        for k in places
+        if k ^ 1 << bit in places
+    ]
 
 
-# The pairs of modules that share transfers, each an initiator and a responder, by patterns over some modules.
+# The pairs of modules that share transfers, each an initiator and a responder,
+# by patterns over some modules.
 PATTERNS = {
     "all to all": lambda draw, modules: list(itertools.permutations(modules, 2)),
     "a gather": lambda draw, modules: [(m, modules[0]) for m in modules[1:]],
@@ -76,13 +92,21 @@ PATTERNS = {
     "a halo": lambda draw, modules: halo(modules, draw.randint(1, len(modules))),
     "a butterfly": lambda draw, modules: butterfly(modules),
     "one pair": lambda draw, modules: [(draw.choice(modules), draw.choice(modules))],
-    "random pairs": lambda draw, modules: [(draw.choice(modules), draw.choice(modules)) for _ in range(draw.randint(0, 2 * len(modules)))],
+    "random pairs": lambda draw, modules: [
+        (draw.choice(modules), draw.choice(modules))
+        for _ in range(draw.randint(0, 2 * len(modules)))
+    ],
 }
 
 
 def patterned(draw):
-    """The name of a pattern, and a batch text of it, which has as many transfers for each pair, or unequally many. Most batches are small."""
-    name, most, top = draw.choice(list(PATTERNS)), draw.choices([40, 400, TRANSFERS], [90, 9, 1])[0], draw.choice([16, MODULES])
+    """The name of a pattern, and a batch text of it, which has as many transfers for each pair, or
+    unequally many. Most batches are small."""
+    name, most, top = (
+        draw.choice(list(PATTERNS)),
+        draw.choices([40, 400, TRANSFERS], [90, 9, 1])[0],
+        draw.choice([16, MODULES]),
+    )
     modules = draw.sample(range(top), draw.randint(1, top))
     pairs = PATTERNS[name](draw, modules)
     while len(pairs) > most:
@@ -94,7 +118,9 @@ def patterned(draw):
     found = [pair for pair, count in zip(pairs, counts) for _ in range(count)]
     if draw.random() < 0.5:
         draw.shuffle(found)
-    kinds, own, far = (draw.choices(them, k=len(found)) for them in (["push", "pull"], range(64), range(64)))
+    kinds, own, far = (
+        draw.choices(them, k=len(found)) for them in (["push", "pull"], range(64), range(64))
+    )
     lines = [f"{kind} {m} {b} {n} {c}\n" for kind, (m, n), b, c in zip(kinds, found, own, far)]
     return name, f"batch {len(lines)}\n{''.join(lines)}".encode()
 
@@ -102,12 +128,19 @@ def patterned(draw):
 def moves(draw, modules, most):
     """A text of moves between some of the modules. Few modules have many ends."""
     count = draw.randint(0, most)
-    lines = [f"move {draw.randrange(modules)} {draw.randrange(64)} {draw.randrange(modules)} {draw.randrange(64)}\n" for _ in range(count)]
+    lines = [
+        (
+            f"move {draw.randrange(modules)} {draw.randrange(64)} {draw.randrange(modules)} "
+            f"{draw.randrange(64)}\n"
+        )
+        for _ in range(count)
+    ]
     return f"moves {count}\n{''.join(lines)}".encode()
 
 
 def wiring(draw):
-    """A wiring of some modules, most of which are few or as many as there may be. In a third of the cases modules and links are left out."""
+    """A wiring of some modules, most of which are few or as many as there may be. In a third of the
+    cases modules and links are left out."""
     count = draw.choice([1, 2, 3, 8, JOINED, draw.randint(1, JOINED)])
     links, sparse = draw.sample(range(PORTS), 2 * count), draw.random() < 0.33
     numbers = sorted(draw.sample(range(min(count + 2, JOINED)), count)) if sparse else range(count)
@@ -132,8 +165,9 @@ def shape(draw):
 
 
 def colours(transfers):
-    """A colour for each of the transfers, none of which shares a link with another of its colour, and no more colours than the
-    busiest link has uses: an edge is coloured after the other, along alternating paths."""
+    """A colour for each of the transfers, none of which shares a link with another of its colour,
+    and no more colours than the busiest link has uses: an edge is coloured after the other, along
+    alternating paths."""
     degree = 0
     for side in (1, 3):
         uses = [transfer[side] for transfer in transfers]
@@ -150,7 +184,8 @@ def colours(transfers):
     for t in range(len(transfers)):
         here, there = ends(t)
         a, b = free(here), free(there)
-        # The path of colours a and b from the far link on changes its colours, so that a is free there too.
+        # The path of colours a and b from the far link on changes its colours,
+        # so that a is free there too.
         path, link, wanted = [], there, a
         while (link, wanted) in held:
             u = held[link, wanted]
@@ -170,7 +205,8 @@ def colours(transfers):
 
 
 def schedule(draw, transfers, named):
-    """The settings of a shortest schedule as lists, in whatever order, with the certificate (link, transfers) that is handed in."""
+    """The settings of a shortest schedule as lists, in whatever order, with the certificate (link,
+    transfers) that is handed in."""
     colour, degree = colours(transfers)
     settings = [[t for t in range(len(transfers)) if colour[t] == c] for c in range(degree)]
     draw.shuffle(settings)
@@ -181,10 +217,15 @@ def schedule(draw, transfers, named):
 
 
 def loose_schedule(draw, transfers):
-    """The settings of any schedule of the transfers, as lists: each transfer stands in one of its own choice, and some may be empty."""
+    """The settings of any schedule of the transfers, as lists: each transfer stands in one of its
+    own choice, and some may be empty."""
     settings = [[] for _ in range(draw.randint(0, len(transfers) + 1))]
     for t in draw.sample(range(len(transfers)), len(transfers)):
-        free = [k for k, setting in enumerate(settings) if not any(links_in(transfers[t]) & links_in(transfers[u]) for u in setting)]
+        free = [
+            k
+            for k, setting in enumerate(settings)
+            if not any(links_in(transfers[t]) & links_in(transfers[u]) for u in setting)
+        ]
         if not free:
             settings.append([])
             free = [len(settings) - 1]
@@ -234,7 +275,9 @@ def bend(draw, settings, certificate, count):
 
 
 def schedule_text(settings, certificate):
-    lines = [f"settings {len(settings)}"] + [" ".join(["setting", *map(str, setting)]) for setting in settings]
+    lines = [f"settings {len(settings)}"] + [
+        " ".join(["setting", *map(str, setting)]) for setting in settings
+    ]
     if certificate:
         link, named = certificate
         lines.append("busiest link {} module {}".format(*link) if link else "busiest none")
@@ -251,12 +294,25 @@ def address(draw, shape):
     """An address that mostly is that of a word of a module."""
     words = shape[1] * shape[2]
     known = 0x80000800 + 4 * draw.randrange(words)
-    return "%08x" % draw.choices([known, draw.choice([0x80000800 - 4, 0x80000800 + 4 * words, known + 1, known + 2, 0, 0xFFFFFFFC])], [9, 1])[0]
+    return (
+        "%08x"
+        % draw.choices(
+            [
+                known,
+                draw.choice(
+                    [0x80000800 - 4, 0x80000800 + 4 * words, known + 1, known + 2, 0, 0xFFFFFFFC]
+                ),
+            ],
+            [9, 1],
+        )[0]
+    )
 
 
 def memory_line(draw, shape, modules):
     """A line that peeks or pokes in one of the modules, or seldom in one that may not be there."""
-    module = draw.choices([draw.choice(modules), draw.choice([MODULES, MODULES + 1, 999999999])], [19, 1])[0]
+    module = draw.choices(
+        [draw.choice(modules), draw.choice([MODULES, MODULES + 1, 999999999])], [19, 1]
+    )[0]
     if draw.random() < 0.5:
         return f"peek {module} {address(draw, shape)}\n"
     return f"poke {module} {address(draw, shape)} {word(draw)}\n"
@@ -264,18 +320,38 @@ def memory_line(draw, shape, modules):
 
 def odd_line(draw):
     """A line that is no command."""
-    return draw.choice(["", "hello", "plan", "peek 0", "batch", "progress 1", "bye bye", "run 01", "show 1000000000", "a" * 80]) + "\n"
+    return (
+        draw.choice(
+            [
+                "",
+                "hello",
+                "plan",
+                "peek 0",
+                "batch",
+                "progress 1",
+                "bye bye",
+                "run 01",
+                "show 1000000000",
+                "a" * 80,
+            ]
+        )
+        + "\n"
+    )
 
 
 def script(draw, shape, most, numbers):
-    """A script of at most so many commands, whose batches fit the shape and which names batches by some of these numbers."""
+    """A script of at most so many commands, whose batches fit the shape and
+    which names batches by some of these numbers."""
     lines = []
     for _ in range(draw.randint(0, most)):
         what = draw.randrange(20)
         if what < 4:
             lines.append(batch(draw, shape, 4).decode())
         elif what < 14:
-            lines.append(f"{draw.choice(['plan', 'plan', 'run', 'run', 'show', 'drop'])} {draw.choice(numbers)}\n")
+            lines.append(
+                f"{draw.choice(['plan', 'plan', 'run', 'run', 'show', 'drop'])} "
+                f"{draw.choice(numbers)}\n"
+            )
         elif what < 17:
             lines.append(memory_line(draw, shape, range(shape[0])))
         elif what < 19:
@@ -288,8 +364,8 @@ def script(draw, shape, most, numbers):
 
 
 def crowd_script(draw, shape):
-    """A script for one of many clients: it submits some batches, and then plans and runs batches by numbers of which some may be its own,
-    with other lines between."""
+    """A script for one of many clients: it submits some batches, and then plans and runs batches by
+    numbers of which some may be its own, with other lines between."""
     lines = [batch(draw, shape, 4).decode() for _ in range(draw.randint(2, 6))]
     for number in draw.sample(range(1, 81), 40):
         lines.append(f"plan {number}\nrun {number}\n")
@@ -310,8 +386,9 @@ def crowd_script(draw, shape):
 
 
 def own_script(draw, shape, module, has_batches):
-    """A script that only looks at one module, so that its replies don't depend on what other sessions do with theirs. Only where it has
-    batches does it submit some, which stay within the module, and look at the progress."""
+    """A script that only looks at one module, so that its replies don't depend on what other
+    sessions do with theirs. Only where it has batches does it submit some, which stay within the
+    module, and look at the progress."""
     lines = []
     for _ in range(draw.randint(0, 30)):
         if has_batches and draw.random() < 0.2:
@@ -325,7 +402,11 @@ def own_script(draw, shape, module, has_batches):
             lines.append(odd_line(draw))
         else:
             lines.append(memory_line(draw, shape, [module]))
-    end = draw.choice(["", "bye\n", "bye\npeek 0", "peek", "a" * 81, "batch 2\npush 0 0 0 0\n"] if has_batches else ["", "bye\n", "peek", "b" * 99])
+    end = draw.choice(
+        ["", "bye\n", "bye\npeek 0", "peek", "a" * 81, "batch 2\npush 0 0 0 0\n"]
+        if has_batches
+        else ["", "bye\n", "peek", "b" * 99]
+    )
     return "".join([*lines, end]).encode()
 
 
@@ -387,7 +468,9 @@ def lose_line(draw, text):
 
 def add_behind(draw, text):
     many = [b"push 0 0 1 0\n" * 9000, b" 0" * 55000]
-    return text + draw.choice([b"\n", b" ", b"x", b"0", b"\r\n", b"\x00", text, b"push 0 0 1 0\n", b"named 0\n", *many])
+    return text + draw.choice(
+        [b"\n", b" ", b"x", b"0", b"\r\n", b"\x00", text, b"push 0 0 1 0\n", b"named 0\n", *many]
+    )
 
 
 def add_return(draw, text):
@@ -415,8 +498,8 @@ def step_number(draw, text):
 
 
 WAYS = [
-    lose, change, double, swap, cut, cut_lines, move_line, double_line, lose_line, add_behind, add_return,
-    change_number, change_number, step_number, step_number,
+    lose, change, double, swap, cut, cut_lines, move_line, double_line, lose_line, add_behind,
+    add_return, change_number, change_number, step_number, step_number,
 ]  # fmt: skip
 
 

@@ -1,6 +1,6 @@
 #!/usr/bin/env python3
-"""Files and streams that can't be read, and streams that can't be written: one line on the right stream, the status that docs/REFUSALS.md
-names, and nothing hangs."""
+"""Files and streams that can't be read, and streams that can't be written: one line on the right
+stream, the status that docs/REFUSALS.md names, and nothing hangs."""
 
 import errno
 import os
@@ -21,7 +21,10 @@ from program import EXCHANGE, Ended, ask, end, start
 THREE_TRANSFERS = b"batch 3\npush 0 0 1 0\npush 0 1 2 0\npush 1 1 2 1\n"
 PLAN = b"settings 2\nsetting 0 2\nsetting 1\nbusiest link 0 module 0\nnamed 0 1\n"
 SWITCHED = b"setting 0 04 01 00 11 01 01 12 03\nsetting 1 06 00 11 06 01 12 01 00 12 03\n"
-BOARD = b"wiring 3\nmodule 0 link 0 at 4 link 3 at 21\nmodule 1 link 0 at 5 link 3 at 22\nmodule 2 link 0 at 11 link 3 at 0\n"
+BOARD = (
+    b"wiring 3\nmodule 0 link 0 at 4 link 3 at 21\nmodule 1 link 0 at 5 link 3 at 22\n"
+    b"module 2 link 0 at 11 link 3 at 0\n"
+)
 SWITCHED_THERE = b"setting 0 04 01 04 16 01 05 00 03\nsetting 1 06 04 16 06 05 00 01 04 00 03\n"
 SWAP = b"batch 2\npush 0 0 1 0\npush 1 0 0 0\n"
 IMAGE, SWAPPED = bytes([1, 2, 3, 4, 5, 6, 7, 8]), bytes([5, 6, 7, 8, 1, 2, 3, 4])
@@ -73,7 +76,11 @@ def under(line, *words):
 
 def is_unwritten(ended):
     """One line on standard error, nothing on standard output, and status 3."""
-    is_line = ended.err.startswith(UNWRITTEN) and ended.err.count(b"\n") == 1 and ended.err.endswith(b"\n")
+    is_line = (
+        ended.err.startswith(UNWRITTEN)
+        and ended.err.count(b"\n") == 1
+        and ended.err.endswith(b"\n")
+    )
     return is_line and ended.out == b"" and ended.status == 3
 
 
@@ -82,20 +89,39 @@ def files(room):
     os.mkdir("folder")
     os.symlink("nothing", "dangling")
     os.symlink("round", "round")
-    yield from [("a folder", "folder"), ("a folder, by a dot", "."), ("nothing", "missing"), ("a link to nothing", "dangling")]
-    yield from [("a link to itself", "round"), ("a file as a folder", "three/x"), ("no name", ""), ("a long name", "x" * 5000)]
-    yield from [("a memory that can't be read", "/proc/self/mem"), ("a long path", "x/" * 3000), ("odd characters", spoil.MARKS)]
+    yield from [
+        ("a folder", "folder"),
+        ("a folder, by a dot", "."),
+        ("nothing", "missing"),
+        ("a link to nothing", "dangling"),
+    ]
+    yield from [
+        ("a link to itself", "round"),
+        ("a file as a folder", "three/x"),
+        ("no name", ""),
+        ("a long name", "x" * 5000),
+    ]
+    yield from [
+        ("a memory that can't be read", "/proc/self/mem"),
+        ("a long path", "x/" * 3000),
+        ("odd characters", spoil.MARKS),
+    ]
 
 
 def unreadable_files(room):
     for what, name in files(room):
         for words in [
-            ("plan", name), ("plan", name, "--steady"), ("switch", name), ("switch", name, "--steady"), ("switch", name, "--schedule", "plan"),
-            ("switch", "three", "--schedule", name), ("switch", "three", "--wiring", name), ("drive", "three", "gone", "--wiring", name),
-            ("drive", name, "gone"), ("check", name, "plan"), ("check", "three", name), ("draw", name, "plan"), ("draw", "three", name),
-            ("run", "3x2x2", name), ("run", "0", name), ("run", "0", "three", "--schedule", name), ("serve", "2x2x2", "script", name),
+            ("plan", name), ("plan", name, "--steady"), ("switch", name),
+            ("switch", name, "--steady"), ("switch", name, "--schedule", "plan"),
+            ("switch", "three", "--schedule", name), ("switch", "three", "--wiring", name),
+            ("drive", "three", "gone", "--wiring", name),
+            ("drive", name, "gone"), ("check", name, "plan"), ("check", "three", name),
+            ("draw", name, "plan"), ("draw", "three", name),
+            ("run", "3x2x2", name), ("run", "0", name), ("run", "0", "three", "--schedule", name),
+            ("serve", "2x2x2", "script", name),
             ("serve", "0", name), ("apply", "2x1x1", name, "image"),
-            ("apply", "0", "three", name), ("run", "0", "three", "--image", name), ("serve", "0", "script", "--image", name), ("direct", name),
+            ("apply", "0", "three", name), ("run", "0", "three", "--image", name),
+            ("serve", "0", "script", "--image", name), ("direct", name),
             ("replay", name), ("replay", "three", "--shape", "0", "--image", name),
         ]:  # fmt: skip
             expect(f"{what}: {words[0]}", ask(*words), refused_file(name, reason_of(name)))
@@ -111,17 +137,25 @@ def forbidden_file(room):
     words = [f"{room}/exchange", "plan", "forbidden"]
     if os.geteuid() == 0:
         words = ["/usr/bin/setpriv", "--reuid=65534", "--regid=65534", "--clear-groups", *words]
-    expect("a forbidden file", ask(*words[1:], program=words[0]), refused_file("forbidden", os.strerror(errno.EACCES)))
+    expect(
+        "a forbidden file",
+        ask(*words[1:], program=words[0]),
+        refused_file("forbidden", os.strerror(errno.EACCES)),
+    )
 
 
 def endless_files():
     """What never ends wants more memory than there is."""
     limit = "ulimit -v 400000;"
     for words in [
-        ("plan", "/dev/zero"), ("switch", "/dev/zero"), ("switch", "three", "--schedule", "/dev/zero"), ("check", "/dev/zero", "plan"),
-        ("check", "three", "/dev/zero"), ("draw", "/dev/zero", "plan"), ("draw", "three", "/dev/zero"), ("run", "3x2x2", "/dev/zero"),
-        ("serve", "2x2x2", "script", "/dev/zero"), ("apply", "2x1x1", "swap", "/dev/zero"), ("run", "2x1x1", "swap", "--image", "/dev/zero"),
-        ("direct", "/dev/zero"), ("switch", "three", "--wiring", "/dev/zero"), ("drive", "three", "missing", "--wiring", "/dev/zero"),
+        ("plan", "/dev/zero"), ("switch", "/dev/zero"),
+        ("switch", "three", "--schedule", "/dev/zero"), ("check", "/dev/zero", "plan"),
+        ("check", "three", "/dev/zero"), ("draw", "/dev/zero", "plan"),
+        ("draw", "three", "/dev/zero"), ("run", "3x2x2", "/dev/zero"),
+        ("serve", "2x2x2", "script", "/dev/zero"), ("apply", "2x1x1", "swap", "/dev/zero"),
+        ("run", "2x1x1", "swap", "--image", "/dev/zero"),
+        ("direct", "/dev/zero"), ("switch", "three", "--wiring", "/dev/zero"),
+        ("drive", "three", "missing", "--wiring", "/dev/zero"),
         ("replay", "/dev/zero"),
     ]:  # fmt: skip
         expect(f"an endless file: {words[0]}", under(limit, *words), NO_MEMORY)
@@ -147,7 +181,9 @@ def pipes():
     ]:
         for name, given in [("pipe", os.devnull), ("-", "pipe")]:
             told = "standard input" if name == "-" else "pipe"
-            wanted = refused_batch(told, b"".join(parts), refusal) if refusal else Ended(PLAN, b"", 0)
+            wanted = (
+                refused_batch(told, b"".join(parts), refusal) if refusal else Ended(PLAN, b"", 0)
+            )
             writer = threading.Thread(target=pieces, args=("pipe", parts))
             writer.start()
             expect(f"a pipe: {what}, as {name}", ask("plan", name, given=given), wanted)
@@ -155,7 +191,8 @@ def pipes():
 
 
 def directed(moves):
-    """What `direct` answers to these moves, which is judged. It may answer any directions that halve each module's ends."""
+    """What `direct` answers to these moves, which is judged. It may answer any directions that
+    halve each module's ends."""
     with tempfile.TemporaryDirectory() as room:
         with open(f"{room}/moves", "wb") as file:
             file.write(moves)
@@ -165,7 +202,8 @@ def directed(moves):
 
 
 def steadily_planned(batch):
-    """What `plan --steady` answers to this batch, which is judged. It may answer any steady plan."""
+    """What `plan --steady` answers to this batch, which is judged.
+    It may answer any steady plan."""
     with tempfile.TemporaryDirectory() as room:
         with open(f"{room}/batch", "wb") as file:
             file.write(batch)
@@ -174,7 +212,8 @@ def steadily_planned(batch):
     return answer
 
 
-# The words of each command with standard input for each of its files in turn, and the answers where that is the right file.
+# The words of each command with standard input for each of its files in turn,
+# and the answers where that is the right file.
 STEADY_PLAN = steadily_planned(THREE_TRANSFERS)
 INPUTS = [
     (("plan", "-"), "three", PLAN),
@@ -191,20 +230,28 @@ INPUTS = [
     (("draw", "-", "plan"), "three", picture.answer_draw(THREE_TRANSFERS, PLAN)),
     (("draw", "three", "-"), "plan", picture.answer_draw(THREE_TRANSFERS, PLAN)),
     (("run", "3x2x2", "-"), "three", plain.answer_run(b"3x2x2", THREE_TRANSFERS)),
-    (("run", "3x2x2", "three", "--schedule", "-"), "plan", plain.answer_run(b"3x2x2", THREE_TRANSFERS, run_by=steady.scheduled(PLAN))),
+    (
+        ("run", "3x2x2", "three", "--schedule", "-"),
+        "plan",
+        plain.answer_run(b"3x2x2", THREE_TRANSFERS, run_by=steady.scheduled(PLAN)),
+    ),
     (("run", "2x1x1", "swap", "--image", "-"), "image", plain.answer_run(b"2x1x1", SWAP, IMAGE)),
     (("apply", "2x1x1", "-", "image"), "swap", SWAPPED),
     (("apply", "2x1x1", "swap", "-"), "image", SWAPPED),
     (("direct", "-"), "moves", directed(MOVES)),
     (("serve", "2x1x1", "other", "--image", "-"), "image", b"session 0\nword 04030201\n"),
     (("serve", "2x2x2", "-"), "script", b"session 0\nword 00000000\nbye\n"),
-    (("serve", "2x2x2", "script", "-"), "script", b"session 0\nword 00000000\nbye\nsession 1\nword 00000000\nbye\n"),
+    (
+        ("serve", "2x2x2", "script", "-"),
+        "script",
+        b"session 0\nword 00000000\nbye\nsession 1\nword 00000000\nbye\n",
+    ),
 ]
 
 
 def pipes_as_files():
-    """Each file is read once, and standard input isn't read where it is none of them: a pipe has its text once, and an input that is held
-    open never ends."""
+    """Each file is read once, and standard input isn't read where it is none of them: a pipe has
+    its text once, and an input that is held open never ends."""
     os.mkfifo("once")
     os.mkfifo("held")
     held = os.open("held", os.O_RDWR)
@@ -213,7 +260,11 @@ def pipes_as_files():
             writer = threading.Thread(target=pieces, args=("once", [file.read()]), daemon=True)
         writer.start()
         ended = ask(*("once" if it == "-" else it for it in words), given="held")
-        expect(f"{' '.join(words)}: a pipe, beside an input that is held open", ended, Ended(answer, b"", 0))
+        expect(
+            f"{' '.join(words)}: a pipe, beside an input that is held open",
+            ended,
+            Ended(answer, b"", 0),
+        )
     os.close(held)
 
 
@@ -226,60 +277,115 @@ UNREADABLE = {
 
 
 def inputs():
-    """Standard input as a file: what it has is answered, and one that can't be read is a file that can't be read."""
+    """Standard input as a file: what it has is answered,
+    and one that can't be read is a file that can't be read."""
     for words, given, answer in INPUTS:
         line = " ".join(words)
         expect(f"{line}: its file", ask(*words, given=given), Ended(answer, b"", 0))
-        expect(f"{line}: another name", ask(*("./-" if it == "-" else it for it in words)), refused_file("./-", os.strerror(errno.ENOENT)))
+        expect(
+            f"{line}: another name",
+            ask(*("./-" if it == "-" else it for it in words)),
+            refused_file("./-", os.strerror(errno.ENOENT)),
+        )
         for what, (line_before, error) in UNREADABLE.items():
-            expect(f"{line}: {what}", under(line_before, *words), refused_file("standard input", os.strerror(error)))
-        expect(f"{line}: an endless input", under("ulimit -v 400000; exec </dev/zero;", *words), NO_MEMORY)
+            expect(
+                f"{line}: {what}",
+                under(line_before, *words),
+                refused_file("standard input", os.strerror(error)),
+            )
+        expect(
+            f"{line}: an endless input",
+            under("ulimit -v 400000; exec </dev/zero;", *words),
+            NO_MEMORY,
+        )
     nothing = refused_batch("standard input", b"", b"refused batch line 1\n")
     expect("plan -: nothing", ask("plan", "-"), nothing)
     expect("switch -: nothing", ask("switch", "-"), nothing)
     expect("serve -: nothing", ask("serve", "2x2x2", "-"), Ended(b"session 0\n", b"", 0))
-    expect("a shape isn't a file", ask("run", "-", "-", given="three"), refused(notes.Asked("batch", shape=b"-"), b"refused shape\n"))
-    expect("the rest of an input", under("exec <behind; read line;", "switch", "-"), Ended(SWITCHED, b"", 0))
+    expect(
+        "a shape isn't a file",
+        ask("run", "-", "-", given="three"),
+        refused(notes.Asked("batch", shape=b"-"), b"refused shape\n"),
+    )
+    expect(
+        "the rest of an input",
+        under("exec <behind; read line;", "switch", "-"),
+        Ended(SWITCHED, b"", 0),
+    )
 
 
 def is_misused(ended):
-    """A text on standard error that says what is wrong, nothing on standard output, and status 2."""
-    return ended.out == b"" and b"standard input" in ended.err and ended.err.endswith(b"\n") and ended.status == 2
+    """A text on standard error that says what is wrong, nothing on standard output,
+    and status 2."""
+    return (
+        ended.out == b""
+        and b"standard input" in ended.err
+        and ended.err.endswith(b"\n")
+        and ended.status == 2
+    )
 
 
 def inputs_named_twice():
     """Standard input can be one file only, and where it is two it isn't read."""
     for words in [
-        ("check", "-", "-"), ("draw", "-", "-"), ("switch", "-", "--schedule", "-"), ("serve", "2x2x2", "-", "-"),
-        ("serve", "0", "-", "script", "-", "missing"), ("apply", "2x1x1", "-", "-"), ("run", "2x1x1", "-", "--image", "-"),
-        ("serve", "2x1x1", "-", "--image", "-"), ("switch", "-", "--wiring", "-"), ("drive", "-", "missing", "--wiring", "-", "--go-on"),
+        ("check", "-", "-"), ("draw", "-", "-"), ("switch", "-", "--schedule", "-"),
+        ("serve", "2x2x2", "-", "-"),
+        ("serve", "0", "-", "script", "-", "missing"), ("apply", "2x1x1", "-", "-"),
+        ("run", "2x1x1", "-", "--image", "-"),
+        ("serve", "2x1x1", "-", "--image", "-"), ("switch", "-", "--wiring", "-"),
+        ("drive", "-", "missing", "--wiring", "-", "--go-on"),
     ]:  # fmt: skip
         line = " ".join(words)
         expect(f"{line}: twice", ask(*words, given="three"), is_misused)
         expect(f"{line}: twice, closed", under("exec <&-;", *words), is_misused)
-        expect(f"{line}: twice, endless", under("ulimit -v 400000; exec </dev/zero;", *words), is_misused)
-        behind = ask("-c", '"$@" 2>/dev/null; exec cat', "sh", EXCHANGE, *words, program="/bin/sh", given="three")
+        expect(
+            f"{line}: twice, endless",
+            under("ulimit -v 400000; exec </dev/zero;", *words),
+            is_misused,
+        )
+        behind = ask(
+            "-c",
+            '"$@" 2>/dev/null; exec cat',
+            "sh",
+            EXCHANGE,
+            *words,
+            program="/bin/sh",
+            given="three",
+        )
         expect(f"{line}: what is behind", behind, Ended(THREE_TRANSFERS, b"", 0))
 
 
 def many_settings():
-    """A batch with as many transfers as there may be, all of module 0, and its schedule, whose picture has 3 MB."""
+    """A batch with as many transfers as there may be, all of module 0, and its schedule,
+    whose picture has 3 MB."""
     numbers = range(4096)
     batch = "".join(f"push 0 {t % 64} {1 + t % 31} 0\n" for t in numbers)
     settings = "".join(f"setting {t}\n" for t in numbers)
-    schedule = f"settings {len(numbers)}\n{settings}busiest link 0 module 0\nnamed {' '.join(map(str, numbers))}\n"
+    schedule = (
+        f"settings {len(numbers)}\n{settings}busiest link 0 module 0\n"
+        f"named {' '.join(map(str, numbers))}\n"
+    )
     return f"batch {len(numbers)}\n{batch}".encode(), schedule.encode()
 
 
 # What `plan` and `switch` tell beside their answers to that batch, and `draw` beside the picture.
-WRITTEN_TWICE = b"exchange: settings:33: transfers 0 and 31 both write block 0 of module 1 (lines 2 and 33)\n"
-TOO_WIDE = b"exchange: settings.plan: the picture is 147488 pixels wide, and common tools draw at most 32767; --settings draws some settings alone\n"
+WRITTEN_TWICE = (
+    b"exchange: settings:33: transfers 0 and 31 both write block 0 of module 1 (lines 2 and 33)\n"
+)
+TOO_WIDE = (
+    b"exchange: settings.plan: the picture is 147488 pixels wide, and common tools draw at most "
+    b"32767; --settings draws some settings alone\n"
+)
 
 
 def long_answers():
     """A picture of 3 MB is written whole, and so are the bytes of as many settings."""
     ended = ask("draw", "settings", "settings.plan")
-    expect("a long picture", ended == Ended(picture.answer_draw(*many_settings(), told=ended.out), TOO_WIDE, 0), True)
+    expect(
+        "a long picture",
+        ended == Ended(picture.answer_draw(*many_settings(), told=ended.out), TOO_WIDE, 0),
+        True,
+    )
     batch, schedule = many_settings()
     for options, judge in [([], plain.is_plan), (["--steady"], steady.is_steady)]:
         ended, plan = (ask(command, "settings", *options) for command in ("switch", "plan"))
@@ -287,7 +393,11 @@ def long_answers():
         well = told and judge(batch, plan.out) and switching.is_switched(batch, plan.out, ended.out)
         expect(f"a long list of bytes {options}", well, True)
     ended = ask("switch", "settings", "--schedule", "settings.plan")
-    expect("a long list of bytes of a schedule", ended, Ended(switching.answer_switch(batch, schedule), WRITTEN_TWICE, 0))
+    expect(
+        "a long list of bytes of a schedule",
+        ended,
+        Ended(switching.answer_switch(batch, schedule), WRITTEN_TWICE, 0),
+    )
 
 
 COMMANDS = {
@@ -311,7 +421,8 @@ COMMANDS = {
 
 
 def many_reads():
-    """A session ends after a million reads. Each gives a line: a pipe of packets gives one at a time."""
+    """A session ends after a million reads. Each gives a line:
+    a pipe of packets gives one at a time."""
     taken, given = os.pipe2(os.O_DIRECT)
     with open("replies", "wb") as replies:
         talk = subprocess.Popen([EXCHANGE, "talk", "1x1x1"], stdin=taken, stdout=replies)
@@ -333,15 +444,35 @@ def closed_and_full_output():
     for what, words in COMMANDS.items():
         expect(f"{what} to a closed output", under("exec >&-;", *words), is_unwritten)
         expect(f"{what} to a full output", under("exec >/dev/full;", *words), is_unwritten)
-        expect(f"{what} to an output that is only read", under("exec 1</dev/null;", *words), is_unwritten)
-        expect(f"{what}, all streams closed", under("exec <&- >&- 2>&-;", *words), Ended(b"", b"", 3))
-    expect("an answer to a full output, errors to a full one", under("exec >/dev/full 2>/dev/full;", "plan", "three"), Ended(b"", b"", 3))
+        expect(
+            f"{what} to an output that is only read",
+            under("exec 1</dev/null;", *words),
+            is_unwritten,
+        )
+        expect(
+            f"{what}, all streams closed", under("exec <&- >&- 2>&-;", *words), Ended(b"", b"", 3)
+        )
+    expect(
+        "an answer to a full output, errors to a full one",
+        under("exec >/dev/full 2>/dev/full;", "plan", "three"),
+        Ended(b"", b"", 3),
+    )
     expect("no input", under("exec <&-;", "plan", "three"), Ended(PLAN, b"", 0))
     expect("a wrong word to a closed error", under("exec 2>&-;", "chart"), Ended(b"", b"", 3))
     expect("a wrong word to a full error", under("exec 2>/dev/full;", "chart"), Ended(b"", b"", 3))
-    expect("an answer with a closed error", under("exec 2>&-;", "plan", "three"), Ended(PLAN, b"", 0))
-    expect("a refusal with a closed error", under("exec 2>&-;", "plan", "missing"), Ended(b"refused file\n", b"", 1))
-    expect("a refusal with a full error", under("exec 2>/dev/full;", "plan", "missing"), Ended(b"refused file\n", b"", 1))
+    expect(
+        "an answer with a closed error", under("exec 2>&-;", "plan", "three"), Ended(PLAN, b"", 0)
+    )
+    expect(
+        "a refusal with a closed error",
+        under("exec 2>&-;", "plan", "missing"),
+        Ended(b"refused file\n", b"", 1),
+    )
+    expect(
+        "a refusal with a full error",
+        under("exec 2>/dev/full;", "plan", "missing"),
+        Ended(b"refused file\n", b"", 1),
+    )
 
 
 def readers_that_go_away():
@@ -359,7 +490,11 @@ def readers_that_go_away():
             ended = end(process, None, err)
             # What fits into the pipe before the reader goes is written.
             is_short = taken and not what.startswith("a long ")
-            expect(f"{what}, a reader that goes after {taken} bytes", ended, lambda it: is_unwritten(it) or is_short and it.status in (0, 1))
+            expect(
+                f"{what}, a reader that goes after {taken} bytes",
+                ended,
+                lambda it: is_unwritten(it) or is_short and it.status in (0, 1),
+            )
 
 
 # Lets each write to standard error take a few bytes.
@@ -376,12 +511,19 @@ ssize_t write(int to, const void *bytes, size_t count) {
 
 
 def short_writes():
-    """A line beside a refusal is told to its end, however few bytes standard error takes at once."""
-    subprocess.run(["cc", "-shared", "-fPIC", "-o", "short.so", "-x", "c", "-"], input=SHORT, check=True)
+    """A line beside a refusal is told to its end,
+    however few bytes standard error takes at once."""
+    subprocess.run(
+        ["cc", "-shared", "-fPIC", "-o", "short.so", "-x", "c", "-"], input=SHORT, check=True
+    )
     for most in (1, 5, 100):
         few = {"LD_PRELOAD": os.path.abspath("short.so"), "MOST": str(most)}
         for name in ("missing", "x" * 5000):
-            expect(f"{most} bytes at once", ask("plan", name, env=few), refused_file(name, reason_of(name)))
+            expect(
+                f"{most} bytes at once",
+                ask("plan", name, env=few),
+                refused_file(name, reason_of(name)),
+            )
 
 
 def main():
@@ -389,8 +531,20 @@ def main():
         os.chdir(room)
         many = [f"push {m} {b} {(m + 1) % 16} {b + 32}\n" for m in range(16) for b in range(32)]
         many = f"batch {len(many)}\n{''.join(many)}".encode()
-        texts = [("three", THREE_TRANSFERS), ("plan", PLAN), ("many", many), ("script", b"peek 0 80000800\nbye\n")]
-        texts += [("board", BOARD), ("swap", SWAP), ("image", IMAGE), ("zeros", bytes(1 << 20)), ("moves", MOVES), ("other", b"peek 0 80000800\n")]
+        texts = [
+            ("three", THREE_TRANSFERS),
+            ("plan", PLAN),
+            ("many", many),
+            ("script", b"peek 0 80000800\nbye\n"),
+        ]
+        texts += [
+            ("board", BOARD),
+            ("swap", SWAP),
+            ("image", IMAGE),
+            ("zeros", bytes(1 << 20)),
+            ("moves", MOVES),
+            ("other", b"peek 0 80000800\n"),
+        ]
         texts.append(("behind", b"a line that the shell reads\n" + THREE_TRANSFERS))
         for name, text in texts + list(zip(("settings", "settings.plan"), many_settings())):
             with open(name, "wb") as file:

@@ -1,12 +1,15 @@
 #!/usr/bin/env python3
 """Bursts of lines at a host that records: bursts.py CALLS.SO
 
-Clients say many lines together. CALLS.SO, which calls.c is built to, notes each write and each sync of the host. Plain Python (kept.py) reads the
-record a second time, and each case is judged by both. Before a byte of a reply is written, the entries of its command stand in the record, and with
-`--sync` a sync has ended behind them. What comes before a plan, a run, or a batch that isn't all there is told before that is done, and a refusal
-before what follows it. Where a write or a sync of the record fails once, and would work then, nothing of that group is told, and nothing more is
-written there; a host that resumes goes on. In bursts of 64 lines an entry takes at most MOST writes, and as many syncs. Where sixteen clients hear
-each reply before they say the next line, and a sync takes its time, an entry takes at most MOST_BY_TURNS syncs, and MOST_SWITCHES from one thread
+Clients say many lines together. CALLS.SO, which calls.c is built to, notes each write and each sync
+of the host. Plain Python (kept.py) reads the record a second time, and each case is judged by both.
+Before a byte of a reply is written, the entries of its command stand in the record, and with
+`--sync` a sync has ended behind them. What comes before a plan, a run, or a batch that isn't all
+there is told before that is done, and a refusal before what follows it. Where a write or a sync of
+the record fails once, and would work then, nothing of that group is told, and nothing more is
+written there; a host that resumes goes on. In bursts of 64 lines an entry takes at most MOST
+writes, and as many syncs. Where sixteen clients hear each reply before they say the next line, and
+a sync takes its time, an entry takes at most MOST_BY_TURNS syncs, and MOST_SWITCHES from one thread
 to another; and where each says one line, all who wait for the last sync are woken.
 """
 
@@ -28,7 +31,8 @@ MOST_BY_TURNS = 0.08
 MOST_SWITCHES = 3
 SHAPE = (2, 2, 1)
 
-# A call of the system: whether it begins or ends, what it does, with which file, and how many bytes it has; less than 0 where it failed.
+# A call of the system: whether it begins or ends, what it does, with which file, and how many bytes
+# it has; less than 0 where it failed.
 Call = namedtuple("Call", "when what name count")
 
 
@@ -39,7 +43,8 @@ def switches():
 
 
 class Client:
-    """A client, which says texts, each with so many commands, once it has heard the replies to the one before."""
+    """A client, which says texts, each with so many commands,
+    once it has heard the replies to the one before."""
 
     def __init__(self, name, texts):
         self.name, self.texts, self.told, self.due = name, list(texts), b"", 0
@@ -73,23 +78,43 @@ class Client:
 
 
 class Day:
-    """A host of clients who said these texts, which has ended: its folder, what it printed, and the calls that were noted."""
+    """A host of clients who said these texts, which has ended: its folder, what it printed,
+    and the calls that were noted."""
 
     def __init__(self, room, texts, *options, **calls):
         self.room, self.texts, self.syncs, before = room, texts, "--sync" in options, switches()
         self.clients = [Client(f"{room}/c{k}", its) for k, its in enumerate(texts)]
-        words = [EXCHANGE, "host", shown(SHAPE), *(client.name for client in self.clients), "--record", f"{room}/record", *options]
+        words = [
+            EXCHANGE,
+            "host",
+            shown(SHAPE),
+            *(client.name for client in self.clients),
+            "--record",
+            f"{room}/record",
+            *options,
+        ]
         env = {"LD_PRELOAD": os.path.abspath(sys.argv[1]), "CALLS_LOG": f"{room}/calls", **calls}
-        process = subprocess.Popen(words, stdin=subprocess.DEVNULL, stdout=subprocess.PIPE, stderr=subprocess.PIPE, env=env)
+        process = subprocess.Popen(
+            words, stdin=subprocess.DEVNULL, stdout=subprocess.PIPE, stderr=subprocess.PIPE, env=env
+        )
         try:
             self.talk()
             out, err = process.communicate(timeout=LIMIT)
         finally:
             process.kill()
-        self.out, self.err, self.status, self.switches = out.decode(), err.decode(), process.returncode, switches() - before
+        self.out, self.err, self.status, self.switches = (
+            out.decode(),
+            err.decode(),
+            process.returncode,
+            switches() - before,
+        )
         with open(f"{room}/calls", encoding="utf-8") as file:
             parts = [line.split() for line in file]
-        self.calls = [Call(when, what, name, int(count)) for when, what, name, count in parts if what in ("write", "sync")]
+        self.calls = [
+            Call(when, what, name, int(count))
+            for when, what, name, count in parts
+            if what in ("write", "sync")
+        ]
         self.record = Record(read(f"{room}/record"))
 
     def talk(self):
@@ -112,16 +137,23 @@ class Day:
         while commands:
             command = commands.pop(0)
             if command.startswith("batch "):
-                command = "\n".join([command, *(commands.pop(0) for _ in range(int(command.split()[1])))])
+                command = "\n".join(
+                    [command, *(commands.pop(0) for _ in range(int(command.split()[1])))]
+                )
             sayings.append((command, replies.pop(0) if replies else None))
         return sayings
 
     def on_record(self, name):
         """How many calls on the record did this, and did it well."""
-        return sum(1 for call in self.calls if (call.when, call.what, call.name) == ("end", name, "record") and call.count >= 0)
+        return sum(
+            1
+            for call in self.calls
+            if (call.when, call.what, call.name) == ("end", name, "record") and call.count >= 0
+        )
 
     def judge(self):
-        """Judges what clients were told beside the record, and in which order all was written: how many replies there are."""
+        """Judges what clients were told beside the record, and in which order all was written:
+        how many replies there are."""
         parts = [Part(self, number) for number in range(len(self.clients))]
         there = safe = asked = 0
         for call in self.calls:
@@ -139,7 +171,9 @@ class Day:
             elif call.what == "write":
                 for part in parts:
                     if part.file == call.name:
-                        part.begins_to_tell(call.count, safe) if call.when == "begin" else part.has_told(call.count)
+                        part.begins_to_tell(
+                            call.count, safe
+                        ) if call.when == "begin" else part.has_told(call.count)
         return sum(part.client.told.count(b"\n") for part in parts)
 
 
@@ -151,7 +185,8 @@ class Part:
         entries, ends = day.record.entries, day.record.ends
         own = [(ends[at], ends[at + 1]) for at in range(len(entries)) if entries[at][0] == number]
         judge_client(day.record.of(number), day.said_and_told(number))
-        # Of each command: where its first entry begins, where its last one ends, and whether the replies before it are told first.
+        # Of each command: where its first entry begins, where its last one ends, and whether the
+        # replies before it are told first.
         self.commands, at, is_refused = [], 0, False
         for command, reply in day.said_and_told(number):
             count = len(calls_of(command, reply))
@@ -159,7 +194,9 @@ class Part:
             at += count
             waits = command.split()[0] in ("plan", "run") or is_refused
             is_refused = (reply or "").startswith("refused ")
-            self.commands.append((its[0][0] if its else None, max((end for _, end in own[:at]), default=0), waits))
+            self.commands.append(
+                (its[0][0] if its else None, max((end for _, end in own[:at]), default=0), waits)
+            )
 
     def replies(self, count, *, begun):
         """How many replies so many bytes are: those that are begun, or those that are whole."""
@@ -169,13 +206,17 @@ class Part:
     def begins_to_tell(self, count, safe):
         begun = self.replies(self.told + count, begun=True)
         if begun and self.commands[begun - 1][1] > safe:
-            raise Wrong(f"{self.file}: reply {begun} is told before its entry is there: {self.commands[begun - 1][1]} is behind {safe}")
+            raise Wrong(
+                f"{self.file}: reply {begun} is told before its entry is there: "
+                f"{self.commands[begun - 1][1]} is behind {safe}"
+            )
 
     def has_told(self, count):
         self.told += max(count, 0)
 
     def begins_to_record(self, until):
-        """The record gets these bytes: where a plan, a run or what follows a refusal stands there, what came before it was told."""
+        """The record gets these bytes: where a plan, a run or what follows a refusal stands there,
+        what came before it was told."""
         told = self.replies(self.told, begun=False)
         for at, (begin, _, waits) in enumerate(self.commands):
             if waits and begin is not None and begin < until and told < at:
@@ -193,7 +234,9 @@ def commands(draw, count, module):
         elif what < 6:
             yield f"poke {place} {draw.randrange(1 << 32):08x}"
         else:
-            yield draw.choice([f"peek {place}", f"peek {place}", f"show {draw.randint(1, 20)}", "progress"])
+            yield draw.choice(
+                [f"peek {place}", f"peek {place}", f"show {draw.randint(1, 20)}", "progress"]
+            )
 
 
 def burst(lines):
@@ -201,7 +244,9 @@ def burst(lines):
 
 
 def pokes(draw, count):
-    return burst([f"poke {draw.randrange(2)} 80000800 {draw.randrange(1 << 32):08x}" for _ in range(count)])
+    return burst(
+        [f"poke {draw.randrange(2)} 80000800 {draw.randrange(1 << 32):08x}" for _ in range(count)]
+    )
 
 
 def in_room(try_it):
@@ -211,15 +256,24 @@ def in_room(try_it):
 
 
 def try_judge():
-    """The judge is handed a day on which all is told before it is recorded, one on which a plan is recorded before what comes before it is told, one
-    without syncs, and one on which they begin before there is anything."""
+    """The judge is handed a day on which all is told before it is recorded, one on which a plan is
+    recorded before what comes before it is told, one without syncs, and one on which they begin
+    before there is anything."""
     lines = "poke 0 80000800 000000aa\nbatch 1\npush 0 0 1 0\nplan 1\n"
     day = in_room(lambda room: Day(room, [[(lines, 3)]], "--sync"))
-    told, others = ([call for call in day.calls if (call.name == "c0.out") == is_told] for is_told in (True, False))
+    told, others = (
+        [call for call in day.calls if (call.name == "c0.out") == is_told]
+        for is_told in (True, False)
+    )
     day.judge()
     no_syncs = [call for call in day.calls if call.what != "sync"]
     early_syncs = sorted(day.calls, key=lambda call: (call.when, call.what) != ("begin", "sync"))
-    for what, day.calls in {"early": told + others, "late": others + told, "no syncs": no_syncs, "early syncs": early_syncs}.items():
+    for what, day.calls in {
+        "early": told + others,
+        "late": others + told,
+        "no syncs": no_syncs,
+        "early syncs": early_syncs,
+    }.items():
         must(is_wrong(day.judge), f"the judge lets this through: {what}")
     return 4
 
@@ -230,18 +284,33 @@ def try_order():
     for turn in range(24):
         draw, count = random.Random(f"bursts {turn}"), 1 if turn % 3 else 16
         most = draw.choice([1, 8, 64, 100])
-        texts = [[burst(list(commands(draw, draw.randint(1, most), k))) for _ in range(draw.randint(1, 20))] for k in range(count)]
+        texts = [
+            [
+                burst(list(commands(draw, draw.randint(1, most), k)))
+                for _ in range(draw.randint(1, 20))
+            ]
+            for k in range(count)
+        ]
         day = in_room(lambda room: Day(room, texts, *(["--sync"] if turn % 2 else [])))
         looked += day.judge()
-        must(day.status == 0 and day.record.ended, f"turn {turn}: status {day.status}, {day.out!r}, {day.err[:300]!r}")
+        must(
+            day.status == 0 and day.record.ended,
+            f"turn {turn}: status {day.status}, {day.out!r}, {day.err[:300]!r}",
+        )
         for client in day.clients:
-            must(client.told.count(b"\n") == client.due, f"turn {turn}: {client.name} wasn't told all")
+            must(
+                client.told.count(b"\n") == client.due,
+                f"turn {turn}: {client.name} wasn't told all",
+            )
     return looked
 
 
 def try_parts():
     """Texts that end within a line or within a batch: what came before is told first."""
-    texts = [("poke 0 80000800 000000aa\nbatch 1\n", 1), ("push 0 0 1 0\npeek 0 80000800\npoke 1 80", 2)]
+    texts = [
+        ("poke 0 80000800 000000aa\nbatch 1\n", 1),
+        ("push 0 0 1 0\npeek 0 80000800\npoke 1 80", 2),
+    ]
     texts += [("000804 000000bb\nbatch 2\npush 0 0 1 0\n", 1), ("push 1 1 0 1\nplan 1\n", 2)]
     looked = 0
     for options in [], ["--sync"]:
@@ -257,18 +326,37 @@ def try_counts():
     for clients in 1, 16:
         for options in [], ["--sync"]:
             draw = random.Random("counts")
-            day = in_room(lambda room: Day(room, [[pokes(draw, 64) for _ in range(20)] for _ in range(clients)], *options))
+            day = in_room(
+                lambda room: Day(
+                    room, [[pokes(draw, 64) for _ in range(20)] for _ in range(clients)], *options
+                )
+            )
             looked += day.judge()
-            entries, writes, syncs = len(day.record.entries), day.on_record("write"), day.on_record("sync")
-            print(f"bursts: {clients} clients, {entries} entries, {writes / entries:.4f} writes and {syncs / entries:.4f} syncs an entry", flush=True)
-            well = entries == 1280 * clients and max(writes, syncs) <= MOST * entries and (options or syncs <= 1)
+            entries, writes, syncs = (
+                len(day.record.entries),
+                day.on_record("write"),
+                day.on_record("sync"),
+            )
+            print(
+                (
+                    f"bursts: {clients} clients, {entries} entries, {writes / entries:.4f} writes "
+                    f"and {syncs / entries:.4f} syncs an entry"
+                ),
+                flush=True,
+            )
+            well = (
+                entries == 1280 * clients
+                and max(writes, syncs) <= MOST * entries
+                and (options or syncs <= 1)
+            )
             must(well, f"{clients} clients, {options}: {writes} writes, {syncs} syncs")
     return looked
 
 
 def try_turns():
-    """Sixteen clients who hear each reply before they say the next line: while one syncs, the entries of the others come together.
-    On a busy machine they come late: then it is tried again, with slower syncs."""
+    """Sixteen clients who hear each reply before they say the next line: while one syncs, the
+    entries of the others come together. On a busy machine they come late: then it is tried again,
+    with slower syncs."""
     draw = random.Random("turns")
     texts = [[pokes(draw, 1) for _ in range(50)] for _ in range(16)]
     for slow in 20, 40, 80, 160:
@@ -283,7 +371,8 @@ def try_turns():
 
 
 def try_last():
-    """Sixteen clients who say a line each, at slow syncs: nobody waits for an entry that comes later."""
+    """Sixteen clients who say a line each, at slow syncs:
+    nobody waits for an entry that comes later."""
     draw, looked = random.Random("last"), 0
     for _ in range(8):
         texts = [[pokes(draw, 1)] for _ in range(16)]
@@ -297,7 +386,11 @@ def try_failures():
     for turn in range(24):
         draw, number = random.Random(f"fails {turn}"), 3 + turn % 7
         kind, clients = turn % 3, draw.choice([1, 4])
-        calls = {"CALLS_FAIL": f"sync:record:{number}:{errno.EIO}" if kind == 2 else f"write:record:{number}:{errno.ENOSPC}"}
+        calls = {
+            "CALLS_FAIL": f"sync:record:{number}:{errno.EIO}"
+            if kind == 2
+            else f"write:record:{number}:{errno.ENOSPC}"
+        }
         if kind == 1:
             calls["CALLS_HALF"] = f"record:{number - 1}"
         texts = [[pokes(draw, draw.randint(1, 64)) for _ in range(12)] for _ in range(clients)]
@@ -307,17 +400,27 @@ def try_failures():
 
         def fail(room):
             day = Day(room, texts, *(["--sync"] if kind == 2 or turn % 2 else []), **calls)
-            failed = [at for at, call in enumerate(day.calls) if call.name == "record" and call.count < 0]
-            well = len(failed) == 1 and all(call.name != "record" for call in day.calls[failed[0] + 1 :])
+            failed = [
+                at for at, call in enumerate(day.calls) if call.name == "record" and call.count < 0
+            ]
+            well = len(failed) == 1 and all(
+                call.name != "record" for call in day.calls[failed[0] + 1 :]
+            )
             must(well, f"turn {turn}: the record is written behind a failure, or nothing failed")
-            must(day.status == 3 and "ended record" in day.out, f"turn {turn}: status {day.status}, {day.out!r}, {day.err[:300]!r}")
+            must(
+                day.status == 3 and "ended record" in day.out,
+                f"turn {turn}: status {day.status}, {day.out!r}, {day.err[:300]!r}",
+            )
             many, whole = day.judge(), read(f"{room}/record")[: day.record.ends[-1]]
             for client in day.clients:
                 os.unlink(f"{client.name}.in")
                 os.unlink(f"{client.name}.out")
                 open(f"{client.name}.in", "wb").close()
             status, told = resume(room, SHAPE, [client.name for client in day.clients])
-            must(status == 0 and read(f"{room}/record") == whole + end_of(len(day.record.entries)), f"turn {turn}: resumed: status {status}, {told!r}")
+            must(
+                status == 0 and read(f"{room}/record") == whole + end_of(len(day.record.entries)),
+                f"turn {turn}: resumed: status {status}, {told!r}",
+            )
             return many
 
         looked += in_room(fail)
@@ -325,7 +428,9 @@ def try_failures():
 
 
 def main():
-    failed = try_all([try_judge, try_order, try_parts, try_counts, try_turns, try_last, try_failures], "bursts")
+    failed = try_all(
+        [try_judge, try_order, try_parts, try_counts, try_turns, try_last, try_failures], "bursts"
+    )
     print(f"bursts: {len(CHECKS)} checks, {failed} wrong")
     sys.exit(1 if failed else 0)
 

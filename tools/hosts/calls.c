@@ -1,14 +1,15 @@
 // Notes what a program that is started with this library in LD_PRELOAD asks of files, in its order,
 // and lets some calls fail or wait.
 //
-// The calls: open, stat (by a name), look (of an open file), lock, cut, read, write, sync (of a file or a
-// folder), rename, unlink. NAME is the last part of the file's name.
+// The calls: open, stat (by a name), look (of an open file), lock, cut, read, write, sync (of a
+// file or a folder), rename, unlink. NAME is the last part of the file's name.
 //
 // CALLS_LOG=FILE    a line is put there as a call begins, and one as it ends: `begin` or `end`, the
 //                   call, NAME, and how many bytes; -1 where it failed. A rename has FROM:TO
 // CALLS_FAIL=CALL:NAME:N:ERROR,..   the Nth such call on a file of that name fails by that number
 // CALLS_HALF=NAME:N                 the Nth write there takes half of its bytes
-// CALLS_WAIT=CALL:NAME:N:PIPE       the Nth such call begins once who writes into PIPE has closed it
+// CALLS_WAIT=CALL:NAME:N:PIPE       the Nth such call begins once who writes into PIPE has closed
+//                                   it
 // CALLS_MOVES=FROM:TO               the file FROM is renamed to TO before the first lock
 // CALLS_TWINS=1     each file has the number 7, and differs from others by its device alone
 // CALLS_SLOW=COUNT  each sync takes so many microseconds more
@@ -44,9 +45,14 @@ __attribute__((constructor)) static void begin(void) {
     if (log) log_file = open(log, O_CREAT | O_WRONLY | O_APPEND, 0644);
     list = list ? strtok_r(strdup(list), ",", &rest) : NULL;
     for (struct rule *rule = fails; list; list = strtok_r(NULL, ",", &rest), rule++)
-        if (sscanf(list, "%15[^:]:%127[^:]:%ld:%255s", rule->call, rule->name, &rule->left, rule->rest) != 4) abort();
-    if ((it = getenv("CALLS_HALF")) && sscanf(it, "%127[^:]:%ld", half.name, &half.left) != 2) abort();
-    if ((it = getenv("CALLS_WAIT")) && sscanf(it, "%15[^:]:%127[^:]:%ld:%255s", waits.call, waits.name, &waits.left, waits.rest) != 4) abort();
+        if (sscanf(list, "%15[^:]:%127[^:]:%ld:%255s", rule->call, rule->name, &rule->left,
+                   rule->rest) != 4)
+            abort();
+    if ((it = getenv("CALLS_HALF")) && sscanf(it, "%127[^:]:%ld", half.name, &half.left) != 2)
+        abort();
+    if ((it = getenv("CALLS_WAIT")) && sscanf(it, "%15[^:]:%127[^:]:%ld:%255s", waits.call,
+                                              waits.name, &waits.left, waits.rest) != 4)
+        abort();
     if ((from = getenv("CALLS_MOVES")) && (to = strchr(from, ':'))) *to++ = 0;
     strcpy(half.call, "write");
     twins = getenv("CALLS_TWINS") != NULL;
@@ -74,7 +80,8 @@ static const char *name_of(int file, char *text, size_t size) {
 
 static void note(const char *when, const char *call, const char *name, long count) {
     char text[600];
-    int n = snprintf(text, sizeof text, "%s %s %s %ld\n", when, call, *name ? name : "-", count), was = errno;
+    int n = snprintf(text, sizeof text, "%s %s %s %ld\n", when, call, *name ? name : "-", count),
+        was = errno;
     if (log_file >= 0 && syscall(SYS_write, log_file, text, n) < 0) abort();
     errno = was;
 }
@@ -123,7 +130,8 @@ int open(const char *path, int flags, ...) {
 int statx(int folder, const char *path, int flags, unsigned mask, struct statx *to) {
     static int (*real)(int, const char *, int, unsigned, struct statx *);
     char text[4096];
-    const char *name = *path ? last_of(path) : name_of(folder, text, sizeof text), *call = *path ? "stat" : "look";
+    const char *name = *path ? last_of(path) : name_of(folder, text, sizeof text),
+               *call = *path ? "stat" : "look";
     if (!real) real = next("statx");
     if (begins(call, name, 0)) return -1;
     int done = real(folder, path, flags, mask, to);

@@ -1,11 +1,13 @@
 #!/usr/bin/env python3
 """Records in which something is wrong: flips.py [self] [COUNT [STEP]]
 
-COUNT records, 3 where it isn't said, have 60 entries each, with all kinds of calls. In turn each bit is wrong, or each so manieth, and each digit; each line
-and each entry is left out, doubled, and exchanged with the next; and each number of last entries is left out before the end. Plain Python
-(tools/hostile/records.py) judges. By the rule each is refused, and its file stays as it was; or it was torn off within its last lines. None has another
-meaning. `replay` and a live session with --resume are asked in turn about what is refused, and both about the others. With `self` the judge alone is
-tried, without the program.
+COUNT records, 3 where it isn't said, have 60 entries each, with all kinds of calls. In turn each
+bit is wrong, or each so manieth, and each digit; each line and each entry is left out, doubled, and
+exchanged with the next; and each number of last entries is left out before the end. Plain Python
+(tools/hostile/records.py) judges. By the rule each is refused, and its file stays as it was; or it
+was torn off within its last lines. None has another meaning. `replay` and a live session with
+--resume are asked in turn about what is refused, and both about the others. With `self` the judge
+alone is tried, without the program.
 """
 
 import multiprocessing
@@ -26,12 +28,18 @@ ENTRIES = 60
 
 
 def calls(draw):
-    """The calls of a record, each a text: pokes and peeks first, and batches near the end, of one transfer to nine."""
+    """The calls of a record, each a text: pokes and peeks first, and batches near the end,
+    of one transfer to nine."""
     for number in range(ENTRIES):
         place = f"{draw.randrange(2)} {0x80000800 + 4 * draw.randrange(2):08x}"
         if number > ENTRIES - 20 and number % 3 == 0:
             count = draw.randint(1, 9)
-            yield "\n".join([f"batch {count}", *(f"push {draw.randrange(2)} 0 {draw.randrange(2)} 1" for _ in range(count))]) + "\n"
+            yield "\n".join(
+                [
+                    f"batch {count}",
+                    *(f"push {draw.randrange(2)} 0 {draw.randrange(2)} 1" for _ in range(count)),
+                ]
+            ) + "\n"
         elif draw.random() < 0.5:
             yield f"poke {place} {draw.randrange(1 << 32):08x}\n"
         else:
@@ -54,7 +62,8 @@ def made_record(turn):
 
 
 def exchanged(parts):
-    """Lists of these parts with one left out, one doubled, and two exchanged that follow each other."""
+    """Lists of these parts with one left out, one doubled,
+    and two exchanged that follow each other."""
     for at in range(len(parts)):
         yield parts[:at] + parts[at + 1 :]
         yield parts[:at] + parts[at : at + 1] + parts[at:]
@@ -68,7 +77,9 @@ def spoilt_records(text, step):
         one[bit // 8] ^= 1 << bit % 8
         yield f"bit {bit}", bytes(one)
     for place in (it.start() for it in re.finditer(rb"[0-9a-f]", text)):
-        yield f"digit {place}", text[:place] + b"%x" % ((int(text[place : place + 1], 16) + 7) % 16) + text[place + 1 :]
+        yield f"digit {place}", text[:place] + b"%x" % (
+            (int(text[place : place + 1], 16) + 7) % 16
+        ) + text[place + 1 :]
     ends = Replay(text).ends
     entries = [text[begin:end] for begin, end in zip(ends, ends[1:])]
     for parts in exchanged(text.splitlines(keepends=True)):
@@ -81,14 +92,19 @@ def spoilt_records(text, step):
 
 
 def judged(text, whole):
-    """What `replay` has to print of a spoilt record, what it has to tell, and its status; and what its file has to be once a session has gone on with
-    it. Wrong where it has another meaning than the whole one, or lost more than its last lines."""
+    """What `replay` has to print of a spoilt record, what it has to tell, and its status; and what
+    its file has to be once a session has gone on with it. Wrong where it has another meaning than
+    the whole one, or lost more than its last lines."""
     answer = answer_replay(text, "record")
     if answer[2] != 0:
         return answer, text
     replay = Replay(text)
     least = ENTRIES if whole.ended else ENTRIES - 1
-    if replay.ended or len(replay.entries) < least or replay.entries != whole.entries[: len(replay.entries)]:
+    if (
+        replay.ended
+        or len(replay.entries) < least
+        or replay.entries != whole.entries[: len(replay.entries)]
+    ):
         raise AssertionError(f"{len(replay.entries)} entries are left, of {len(whole.entries)}")
     return answer, text[: replay.ends[-1]] + end_of(len(replay.entries))
 
@@ -102,7 +118,13 @@ def tried(text, wanted, left, names, number):
         if told != wanted:
             return f"{told} where it has to be {wanted}"
     if wanted[2] == 0 or number % 2 == 0:
-        on = ask(*(["host", "2x2x1", *names] if names else ["talk", "2x2x1"]), "--record", "record", "--resume", "--quiet")
+        on = ask(
+            *(["host", "2x2x1", *names] if names else ["talk", "2x2x1"]),
+            "--record",
+            "record",
+            "--resume",
+            "--quiet",
+        )
         with open("record", "rb") as file:
             found = file.read()
         if on.status != wanted[2] or wanted[2] and on.out != wanted[0] or found != left:
@@ -140,20 +162,32 @@ def main(words):
     count, step = numbers[0] if numbers else 3, numbers[1] if numbers[1:] else 1
     workers = os.cpu_count() or 1
     with multiprocessing.Pool(workers) as pool:
-        found = pool.starmap(try_records, [(turn, first, step, workers, asks) for turn in range(count) for first in range(workers)])
+        found = pool.starmap(
+            try_records,
+            [
+                (turn, first, step, workers, asks)
+                for turn in range(count)
+                for first in range(workers)
+            ],
+        )
     wrong = [line for _, lines in found for line in lines]
     with tempfile.TemporaryDirectory(dir=ROOMS) as room:
         os.chdir(room)
         whole = made_record(0)
         for text in whole[:-1], whole[1:]:
             (printed, told, status), left = judged(text, Replay(whole))
-            for number, *it in (1, (printed, b"x", status), left), (0, (printed, told, status), b"x"):
+            for number, *it in (
+                (1, (printed, b"x", status), left),
+                (0, (printed, told, status), b"x"),
+            ):
                 if asks and not tried(text, *it, [], number):
                     wrong.append("what is told of a record, or left of it, isn't compared")
         os.chdir("/")
     for line in wrong[:20]:
         print(f"flips: WRONG: {line}")
-    print(f"flips: {sum(looked for looked, _ in found)} spoilt records of {count}, {len(wrong)} wrong")
+    print(
+        f"flips: {sum(looked for looked, _ in found)} spoilt records of {count}, {len(wrong)} wrong"
+    )
     return bool(wrong)
 
 

@@ -48,9 +48,12 @@ def numbers() -> Pairs:
 
 
 def progress() -> Pairs:
-    """A client sees by `progress` how far the run of another is, while it goes. A run takes some milliseconds, so the client asks many times
-    at once, and the other runs as often as it takes, 200 times at most."""
-    pushes = "".join(f"push {m} {b} {(m + 1) % 32} {b + 32}\n" for m in range(32) for b in range(32))
+    """A client sees by `progress` how far the run of another is, while it goes. A run takes some
+    milliseconds, so the client asks many times at once, and the other runs as often as it
+    takes, 200 times at most."""
+    pushes = "".join(
+        f"push {m} {b} {(m + 1) % 32} {b + 32}\n" for m in range(32) for b in range(32)
+    )
     host = Host("32x64x256", ["amy", "bob"])
     amy, bob = Client("amy"), Client("bob")
     between, falls, before = False, False, (0, 0)
@@ -109,7 +112,8 @@ def hears_no_more() -> Pairs:
 
 
 def hears_late() -> Pairs:
-    """A client that asks and asks, and hears nothing, until its pipe is full, holds nobody else. It is told all when it hears at last."""
+    """A client that asks and asks, and hears nothing, until its pipe is full, holds nobody else. It
+    is told all when it hears at last."""
     host = Host("2x1x1", ["amy", "bob"])
     amy, bob = Client("amy"), Client("bob")
     amy.say("progress\n" * 4000)
@@ -131,7 +135,8 @@ def hears_late() -> Pairs:
 
 
 def sixteen() -> Pairs:
-    """Sixteen clients at once: each writes a word of its own module, and reads the next one's when all have."""
+    """Sixteen clients at once: each writes a word of its own module,
+    and reads the next one's when all have."""
     names = [f"client-{k}" for k in range(16)]
     host = Host("16x1x1", names, "--workers", "4")
     clients = [Client(name) for name in names]
@@ -140,14 +145,17 @@ def sixteen() -> Pairs:
     yield [client.hear() for client in clients], ["poked"] * 16
     for k, client in enumerate(clients):
         client.say(f"peek {(k + 1) % 16} 80000800\n")
-    yield [client.hear() for client in clients], [f"word 000000{(k + 1) % 16:02x}" for k in range(16)]
+    yield [client.hear() for client in clients], [
+        f"word 000000{(k + 1) % 16:02x}" for k in range(16)
+    ]
     for client in clients:
         client.leave()
     yield host.end(), host.ended()
 
 
 def comes_late() -> Pairs:
-    """A client that doesn't come holds nobody else, nor does one that opens the pipe alone by which it speaks. Both come at last."""
+    """A client that doesn't come holds nobody else, nor does one that opens the pipe alone by which
+    it speaks. Both come at last."""
     host = Host("1x1x1", ["late", "amy", "half"])
     half = os.open("half.in", os.O_WRONLY)
     amy = Client("amy")
@@ -177,16 +185,30 @@ def closes() -> Pairs:
     yield host.end(), host.ended()
 
 
+def add_up(shape: str) -> tuple[list[str], int]:
+    """What the example's clients say to a host of this shape, and their status."""
+    host = Host(shape, [f"{k}" for k in range(16)])
+    clients = PROCESSES.start(
+        [sys.executable, EXAMPLES / "all-reduce.py"], stdin=subprocess.DEVNULL
+    )
+    told = clients.communicate(timeout=20)[0].decode().splitlines()
+    host.process.wait()
+    return told, clients.returncode
+
+
 def all_reduce() -> Pairs:
-    """The clients of the example."""
-    host = Host("16x5x2", [f"{k}" for k in range(16)])
-    told = PROCESSES.start([sys.executable, EXAMPLES / "all-reduce.py"], stdin=subprocess.DEVNULL).communicate()[0]
-    yield told.decode().splitlines(), [f"module {k} has 136" for k in range(16)]
-    yield host.end(), host.ended()
+    """The clients of the example, which end where the rack has another shape, though some wait."""
+    yield add_up("16x5x2"), ([f"module {k} has 136" for k in range(16)], 0)
+    yield is_replayed("16x5x2"), True
+    for shape in "16x5x1", "12x5x2":
+        told, status = add_up(shape)
+        yield status, 1
+        yield bool(re.fullmatch(r"all-reduce\.py: module \d+ is told: refused .*", told[0])), True
 
 
 def lines_of_shells() -> list[tuple[str, str, list[str]]]:
-    """What docs/GUIDE.md shows of two shells: of each line the shell, the command, and what it prints."""
+    """What docs/GUIDE.md shows of two shells: of each line the shell, the command,
+    and what it prints."""
     shown, shell = [], None
     for line in (REPOSITORY / "docs/GUIDE.md").read_text(encoding="utf-8").splitlines():
         if mark := re.fullmatch(r"```(?:console (\w+))?.*", line):
@@ -199,7 +221,8 @@ def lines_of_shells() -> list[tuple[str, str, list[str]]]:
 
 
 def put_recorder() -> None:
-    """Puts a program here that is called as the exchange is. A host that doesn't record keeps its record and the image that it leaves."""
+    """Puts a program here that is called as the exchange is. A host that doesn't record keeps its
+    record and the image that it leaves."""
     exchange = shlex.quote(EXCHANGE)
     script = Path("exchange")
     script.write_text(
@@ -210,7 +233,8 @@ def put_recorder() -> None:
 
 
 def walk() -> Pairs:
-    """What the guide shows of two shells: clients that look, and a host that is killed. The host that isn't told to records too."""
+    """What the guide shows of two shells: clients that look, and a host that is killed. The host
+    that isn't told to records too."""
     put_recorder()
     shells, shown = {}, lines_of_shells()
     for name, command, wanted in shown:

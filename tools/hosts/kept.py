@@ -1,6 +1,8 @@
-"""A record that a host keeps, read a second time: its head, its entries as far as they go, and what stands behind them.
+"""A record that a host keeps, read a second time: its head, its entries as far as they go,
+and what stands behind them.
 
-Plain Python that shares no code with the product. What calls do, and what replies they have, tools/hostile says a second time.
+Plain Python that shares no code with the product. What calls do, and what replies they have,
+tools/hostile says a second time.
 """
 
 import math
@@ -13,7 +15,16 @@ sys.path.insert(0, f"{TOP}/tools/hostile")
 
 import plain  # noqa: E402
 from plain import Refused  # noqa: E402
-from records import CLIENT, HEAD, Misrecorded, end_of, entry_at, head_of, limit_of, lines_at  # noqa: E402
+from records import (
+    CLIENT,
+    HEAD,
+    Misrecorded,
+    end_of,
+    entry_at,
+    head_of,
+    limit_of,
+    lines_at,
+)  # noqa: E402
 from sealed import sum_line  # noqa: E402
 from sessions import Exchange  # noqa: E402
 
@@ -37,8 +48,9 @@ def must(well, why):
 class Record:
     """A record of a rack that begins with zeros, or with an image's words.
 
-    `entries` are its whole entries, each the session, the call's text and the reply. `ends` are the places where the head and each of them
-    end, `rest` is what stands behind, and `ended` says whether that is the end. Each reply is that of `exchange`, which is left.
+    `entries` are its whole entries, each the session, the call's text and the reply. `ends` are the
+    places where the head and each of them end, `rest` is what stands behind, and `ended` says
+    whether that is the end. Each reply is that of `exchange`, which is left.
     """
 
     def __init__(self, text, image=None):
@@ -46,7 +58,11 @@ class Record:
         head = line is not None and HEAD.fullmatch(line)
         if not head:
             raise Wrong("there is no head")
-        self.shape, self.sum, self.names = tuple(int(n) for n in head.groups()[:3]), int(head[4], 16), []
+        self.shape, self.sum, self.names = (
+            tuple(int(n) for n in head.groups()[:3]),
+            int(head[4], 16),
+            [],
+        )
         for _ in range(int(head[5])):
             line, at = plain.line_at(text, at)
             client = line is not None and CLIENT.fullmatch(line)
@@ -55,7 +71,11 @@ class Record:
             self.names.append(client[1].decode())
         if not text.startswith(sum_line(0, text[:at]), at):
             raise Wrong("the head has another sum")
-        self.exchange, self.entries, self.ends = Exchange(self.shape, image, math.inf), [], [at + len(sum_line(0, b""))]
+        self.exchange, self.entries, self.ends = (
+            Exchange(self.shape, image, math.inf),
+            [],
+            [at + len(sum_line(0, b""))],
+        )
         if zlib.adler32(self.exchange.image()) != self.sum:
             raise Wrong("the sum is another")
         self.go_on(text)
@@ -84,7 +104,9 @@ class Record:
             raise Wrong(f"entry {number} is {lines!r}")
         session, answer, named, begin, end = call
         if session >= limit_of(self.names):
-            raise Wrong(f"entry {number} is of session {session}, and there are {len(self.names)} clients")
+            raise Wrong(
+                f"entry {number} is of session {session}, and there are {len(self.names)} clients"
+            )
         try:
             reply = answer(self.exchange, session, *named)
         except Refused as why:
@@ -101,8 +123,8 @@ class Record:
 
 
 def calls_of(command, reply):
-    """The calls that a client's command makes, each with the reply that its entry has. Where the command had no reply, `reply` is None, and so
-    is that of each call that it may have made."""
+    """The calls that a client's command makes, each with the reply that its entry has. Where the
+    command had no reply, `reply` is None, and so is that of each call that it may have made."""
     word = command.split()[0]
     if word in ("progress", "bye"):
         return []
@@ -115,9 +137,10 @@ def calls_of(command, reply):
 
 
 def judge_client(entries, said):
-    """Judges the entries of a session by what its client said and was told: commands, each with its reply, or with None where the host was gone
-    before it came, and None before those that it said to another host. What was told stands in the record, in its order, and nothing else does but
-    the first calls of those whose replies didn't come."""
+    """Judges the entries of a session by what its client said and was told: commands, each with its
+    reply, or with None where the host was gone before it came, and None before those that it said
+    to another host. What was told stands in the record, in its order, and nothing else does but the
+    first calls of those whose replies didn't come."""
     left, is_missing = list(entries), False
     for saying in said:
         if saying is None:

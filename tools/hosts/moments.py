@@ -1,12 +1,14 @@
 #!/usr/bin/env python3
 """Bad moments of a host that records: moments.py [COUNT], or moments.py self
 
-COUNT is how many times a host is killed, 200 where it isn't said. Sixteen clients are at work, who say single lines or bursts, the host gets a
-SIGKILL, a SIGTERM or a SIGINT at a random moment, and another one goes on with `--resume`, which is killed too, until one comes to its end. Each
-time the record is read by plain Python (kept.py): what a client was told stands there, in its order, and each reply is right. `replay` has to come
-to the same words. Then a record is cut at each byte, and resumed; a host is killed while it resumes; a disk is full, also within a burst; and a
-record's file is taken away or moved.
-`moments.py self` tries the judges alone, by records that are made up, and needs no program.
+COUNT is how many times a host is killed, 200 where it isn't said. Sixteen clients are at work, who
+say single lines or bursts, the host gets a SIGKILL, a SIGTERM or a SIGINT at a random moment, and
+another one goes on with `--resume`, which is killed too, until one comes to its end. Each time the
+record is read by plain Python (kept.py): what a client was told stands there, in its order, and
+each reply is right. `replay` has to come to the same words. Then a record is cut at each byte, and
+resumed; a host is killed while it resumes; a disk is full, also within a burst; and a record's file
+is taken away or moved. `moments.py self` tries the judges alone, by records that are made up, and
+needs no program.
 """
 
 import itertools
@@ -70,7 +72,9 @@ def word_of(draw, shape, module):
 def batch_of(draw, shape):
     """A batch of one or two transfers."""
     count = draw.randint(1, 2)
-    lines = [f"push {draw.randrange(shape[0])} 0 {draw.randrange(shape[0])} 1" for _ in range(count)]
+    lines = [
+        f"push {draw.randrange(shape[0])} 0 {draw.randrange(shape[0])} 1" for _ in range(count)
+    ]
     return "\n".join([f"batch {count}", *lines])
 
 
@@ -89,8 +93,10 @@ def command_of(draw, shape, module, mine):
 
 
 def life(draw, shape, module, number, last, most=1):
-    """What a client does in its life number N: it gives out commands, so many together at most, and is sent their replies. Its first command is
-    that of no other life. It has only so many commands, and then `bye`, where that is its last life; else it goes on without an end."""
+    """What a client does in its life number N: it gives out commands, so many together at most, and
+    is sent their replies. Its first command is that of no other life. It has only so many commands,
+    and then `bye`, where that is its last life; else it goes on without an end.
+    """
     replies, mine = (yield [f"poke {module} 80000800 {number:08x}"]), []
     while last is None or last > 0:
         mine += [int(reply.split()[1]) for reply in replies if reply.startswith("accepted ")]
@@ -103,7 +109,8 @@ def life(draw, shape, module, number, last, most=1):
 class Client:
     """A client that says commands as soon as it has the replies to the ones before.
 
-    It holds both ends of its pipes, so that no opening waits and what a host said before it was killed can still be read.
+    It holds both ends of its pipes, so that no opening waits
+    and what a host said before it was killed can still be read.
     """
 
     def __init__(self, name, work):
@@ -142,7 +149,8 @@ class Client:
                 self.say(self.work.send(self.replies[self.heard :]))
 
     def said_and_told(self):
-        """Its commands with their replies, and what it was told that is no reply: `ended ..` is the line of a session that failed."""
+        """Its commands with their replies, and what it was told that is no reply: `ended ..` is the
+        line of a session that failed."""
         if self.replies and self.replies[-1].startswith("ended "):
             self.extra.insert(0, self.replies.pop())
         return list(itertools.zip_longest(self.sayings, self.replies)), self.extra
@@ -153,8 +161,9 @@ class Client:
 
 
 def begin(bytes_at_most=None):
-    """What a host does before it begins: each signal ends it, also where this tool was started to let some pass. Where a number is given, files
-    may have so many bytes, and a write beyond that fails."""
+    """What a host does before it begins: each signal ends it, also where this tool was started to
+    let some pass. Where a number is given, files may have so many bytes, and a write beyond that
+    fails."""
     for sign in SIGNALS[1:]:
         signal.signal(sign, signal.SIG_DFL)
     if bytes_at_most is not None:
@@ -173,7 +182,8 @@ def start(words, bytes_at_most=None, **ends):
 
 
 def stop_all():
-    """Ends the hosts that aren't at their end, as where something is wrong, or this tool is stopped."""
+    """Ends the hosts that aren't at their end, as where something is wrong,
+    or this tool is stopped."""
     while started:
         process = started.pop()
         process.kill()
@@ -181,19 +191,30 @@ def stop_all():
 
 
 class Host:
-    """A host of sixteen clients at work, on a record in its folder. They say so many commands together at most. Files may have so many bytes, where
-    a number is given."""
+    """A host of sixteen clients at work, on a record in its folder. They say so many commands
+    together at most. Files may have so many bytes, where a number is given."""
 
     def __init__(self, room, shape, draw, number, last, *options, most=1, bytes_at_most=None):
         self.room, self.names = room, [f"{room}/c{k}" for k in range(CLIENTS)]
-        self.clients = [Client(name, life(draw, shape, k % shape[0], number, last, most)) for k, name in enumerate(self.names)]
-        words = [EXCHANGE, "host", shown(shape), *self.names, "--record", f"{room}/record", *options]
+        self.clients = [
+            Client(name, life(draw, shape, k % shape[0], number, last, most))
+            for k, name in enumerate(self.names)
+        ]
+        words = [
+            EXCHANGE,
+            "host",
+            shown(shape),
+            *self.names,
+            "--record",
+            f"{room}/record",
+            *options,
+        ]
         ends = {"stdin": subprocess.DEVNULL, "stdout": subprocess.PIPE, "stderr": subprocess.PIPE}
         self.process = start(words, bytes_at_most, **ends)
 
     def go_on(self, seconds, replies=math.inf):
-        """Lets the clients work for so long, or until so many replies came, or all have said their last command and heard its reply, or the host is
-        gone."""
+        """Lets the clients work for so long, or until so many replies came, or all have said their
+        last command and heard its reply, or the host is gone."""
         until = time.monotonic() + seconds
         hearing = {client.told: client for client in self.clients}
         while hearing and self.process.poll() is None and (left := until - time.monotonic()) > 0:
@@ -204,8 +225,8 @@ class Host:
             hearing = {end: client for end, client in hearing.items() if not client.is_done()}
 
     def end(self, sign=None):
-        """Sends a signal, or lets the clients go, and waits for the end: what was printed, the status, and of each client what it said and was
-        told."""
+        """Sends a signal, or lets the clients go, and waits for the end: what was printed, the
+        status, and of each client what it said and was told."""
         if sign is not None:
             self.process.send_signal(sign)
             self.process.wait(LIMIT)
@@ -223,19 +244,31 @@ class Host:
 
 def ask(*words):
     """Runs the program to its end: what it printed, and its status."""
-    done = subprocess.run([EXCHANGE, *words], stdin=subprocess.DEVNULL, stdout=subprocess.PIPE, stderr=subprocess.PIPE, timeout=LIMIT, check=False)
+    done = subprocess.run(
+        [EXCHANGE, *words],
+        stdin=subprocess.DEVNULL,
+        stdout=subprocess.PIPE,
+        stderr=subprocess.PIPE,
+        timeout=LIMIT,
+        check=False,
+    )
     return done.stdout, done.stderr, done.returncode
 
 
 def judge_replay(room, record):
-    """Judges `replay` of a record: it comes to the same words, whether the record has its end or not."""
+    """Judges `replay` of a record: it comes to the same words,
+    whether the record has its end or not."""
     out, err, status = ask("replay", f"{room}/record")
-    must((out, status) == (record.exchange.image(), 0), f"`replay` has status {status}, and tells {err[:300]!r}")
+    must(
+        (out, status) == (record.exchange.image(), 0),
+        f"`replay` has status {status}, and tells {err[:300]!r}",
+    )
 
 
 def judge(room, shape, names, said, record=None):
-    """Judges a record by what all clients said and were told in all their lives: the record. One that was judged before goes on. A file that has
-    a front of the head is one of no entries, and then nobody was told anything that is one."""
+    """Judges a record by what all clients said and were told in all their lives: the record. One
+    that was judged before goes on. A file that has a front of the head is one of no entries, and
+    then nobody was told anything that is one."""
     text, head = recorded(room), head_of(shape, bytes(4 * shape[0] * shape[1] * shape[2]), names)
     if len(text) < len(head) and head.startswith(text):
         for sayings in said:
@@ -259,17 +292,31 @@ def begun(number):
 
 
 def try_kills(number):
-    """A round of hosts on one record, all of which are killed but the last: how often one was killed, how many entries there are, what is
-    wrong, and the lines that looked."""
+    """A round of hosts on one record, all of which are killed but the last: how often one was
+    killed, how many entries there are, what is wrong, and the lines that looked."""
     draw, shape, kills = begun(number)
     said, before, record = [[] for _ in range(CLIENTS)], b"", None
     with tempfile.TemporaryDirectory(prefix="moments-") as room:
         try:
             for turn in range(kills + 1):
-                options = (["--resume"] if turn else []) + (["--sync"] if draw.random() < 0.25 else [])
+                options = (["--resume"] if turn else []) + (
+                    ["--sync"] if draw.random() < 0.25 else []
+                )
                 last = draw.randint(1, 20) if turn == kills else None
-                host = Host(room, shape, draw, turn + 1, last, *options, "--image-out", f"{room}/left", most=MOST[number % 2])
-                host.go_on(LIMIT) if last else host.go_on(draw.uniform(0, LIFE), draw.randrange(REPLIES))
+                host = Host(
+                    room,
+                    shape,
+                    draw,
+                    turn + 1,
+                    last,
+                    *options,
+                    "--image-out",
+                    f"{room}/left",
+                    most=MOST[number % 2],
+                )
+                host.go_on(LIMIT) if last else host.go_on(
+                    draw.uniform(0, LIFE), draw.randrange(REPLIES)
+                )
                 out, err, status, parts = host.end(None if last else draw.choice(SIGNALS))
                 for sayings, (more, extra) in zip(said, parts):
                     sayings.extend([None, *more])
@@ -277,7 +324,8 @@ def try_kills(number):
                 text = recorded(room)
                 must(text.startswith(before), "an entry that was there is gone, or another")
                 record = judge(room, shape, host.names, said, record)
-                # A head without entries is written anew, so a host that is killed then may leave none.
+                # A head without entries is written anew, so a host
+                # that is killed then may leave none.
                 before = text[: record.ends[-1]] if record and record.entries else b""
             well = status == 0 and record.ended and read(f"{room}/left") == record.exchange.image()
             must(well, f"the last host has status {status}, and prints {out!r} and {err[:300]!r}")
@@ -298,25 +346,45 @@ def idle_names(room, count):
 
 def made_record(draw, shape, names, count):
     """The text of a record of so many calls, that was ended."""
-    return head_of(shape, bytes(4 * shape[0] * shape[1] * shape[2]), names) + b"".join(made(draw, shape, len(names), count)) + end_of(count)
+    return (
+        head_of(shape, bytes(4 * shape[0] * shape[1] * shape[2]), names)
+        + b"".join(made(draw, shape, len(names), count))
+        + end_of(count)
+    )
 
 
 def resume(room, shape, names):
     """Resumes a record with clients that say nothing: the status, and what is told."""
-    out, err, status = ask("host", shown(shape), *names, "--record", f"{room}/record", "--resume", "--image-out", f"{room}/left")
+    out, err, status = ask(
+        "host",
+        shown(shape),
+        *names,
+        "--record",
+        f"{room}/record",
+        "--resume",
+        "--image-out",
+        f"{room}/left",
+    )
     return status, out + err
 
 
 def said_of_cut(room, whole, rest):
-    """What is said of the rest behind whole entries, which is cut off: nothing where that is nothing, or the end."""
+    """What is said of the rest behind whole entries, which is cut off:
+    nothing where that is nothing, or the end."""
     if not rest or Record(whole + rest).ended:
         return b""
     many = b"byte" if len(rest) == 1 else b"bytes"
-    return b"exchange: %s/record: cut off: %d %s from line %d on" % (room.encode(), len(rest), many, whole.count(b"\n") + 1)
+    return b"exchange: %s/record: cut off: %d %s from line %d on" % (
+        room.encode(),
+        len(rest),
+        many,
+        whole.count(b"\n") + 1,
+    )
 
 
 def try_cuts():
-    """A record that is cut at each byte is resumed: its whole entries stay, and nothing else but the end."""
+    """A record that is cut at each byte is resumed: its whole entries stay,
+    and nothing else but the end."""
     draw, shape = random.Random("cuts"), (2, 2, 1)
     with tempfile.TemporaryDirectory(prefix="moments-") as room:
         names = idle_names(room, 2)
@@ -327,15 +395,24 @@ def try_cuts():
             whole = max([end for end in ends if end <= cut], default=ends[0])
             status, told = resume(room, shape, names)
             must(status == 0, f"cut at {cut}: status {status}, {told!r}")
-            must(read(f"{room}/record") == text[:whole] + end_of(max(ends.index(whole), 0)), f"cut at {cut}: the record isn't that of its whole entries")
-            well = (off := said_of_cut(room, text[:whole], text[whole:cut])) == b"\n".join(line for line in told.split(b"\n") if b": cut off: " in line)
+            must(
+                read(f"{room}/record") == text[:whole] + end_of(max(ends.index(whole), 0)),
+                f"cut at {cut}: the record isn't that of its whole entries",
+            )
+            well = (off := said_of_cut(room, text[:whole], text[whole:cut])) == b"\n".join(
+                line for line in told.split(b"\n") if b": cut off: " in line
+            )
             must(well, f"cut at {cut}: {told!r}, and not {off!r}")
-            must(read(f"{room}/left") == Record(text[:whole]).exchange.image(), f"cut at {cut}: the image is another")
+            must(
+                read(f"{room}/left") == Record(text[:whole]).exchange.image(),
+                f"cut at {cut}: the image is another",
+            )
         return len(text) + 1
 
 
 def try_other_heads():
-    """A record of another rack, of other words or of other clients isn't resumed, and a record isn't written over: the file is as it was."""
+    """A record of another rack, of other words or of other clients isn't resumed, and a record
+    isn't written over: the file is as it was."""
     draw, shape = random.Random("heads"), (2, 2, 1)
     with tempfile.TemporaryDirectory(prefix="moments-") as room:
         names = idle_names(room, 2)
@@ -344,13 +421,20 @@ def try_other_heads():
         write(f"{room}/words", bytes(range(16)))
         kept = ["--record", f"{room}/record"]
         out, err, status = ask("host", shown(shape), *names, *kept)
-        well = (out, status) == (b"refused file\n", 1) and b"--resume" in err and read(f"{room}/record") == text
+        well = (
+            (out, status) == (b"refused file\n", 1)
+            and b"--resume" in err
+            and read(f"{room}/record") == text
+        )
         must(well, f"not to be resumed: {out!r} and {err!r}, status {status}")
         tries = [
             (b"refused record head\n", ["host", "2x1x2", *names, *kept, "--resume"]),
             (b"refused record head\n", ["host", shown(shape), *names[::-1], *kept, "--resume"]),
             (b"refused record head\n", ["host", shown(shape), names[0], *kept, "--resume"]),
-            (b"refused record head\n", ["host", shown(shape), *names, *kept, "--resume", "--image", f"{room}/words"]),
+            (
+                b"refused record head\n",
+                ["host", shown(shape), *names, *kept, "--resume", "--image", f"{room}/words"],
+            ),
             (b"refused record head\n", ["talk", shown(shape), *kept, "--resume"]),
         ]
         for wanted, words in tries:
@@ -362,7 +446,8 @@ def try_other_heads():
 
 
 def try_killed_resuming():
-    """A host is killed while it resumes a long record: the whole entries stay, and it is resumed at last."""
+    """A host is killed while it resumes a long record: the whole entries stay,
+    and it is resumed at last."""
     draw, shape = random.Random("resuming"), (4, 2, 2)
     with tempfile.TemporaryDirectory(prefix="moments-") as room:
         names = idle_names(room, 3)
@@ -370,22 +455,42 @@ def try_killed_resuming():
         whole = made_record(draw, shape, names, 20000)[: -len(end)]
         write(f"{room}/record", whole + b"0 peek 0 8000")
         for turn in range(40):
-            words = [EXCHANGE, "host", shown(shape), *names, "--record", f"{room}/record", "--resume"]
-            ends = {"stdin": subprocess.DEVNULL, "stdout": subprocess.DEVNULL, "stderr": subprocess.DEVNULL}
+            words = [
+                EXCHANGE,
+                "host",
+                shown(shape),
+                *names,
+                "--record",
+                f"{room}/record",
+                "--resume",
+            ]
+            ends = {
+                "stdin": subprocess.DEVNULL,
+                "stdout": subprocess.DEVNULL,
+                "stderr": subprocess.DEVNULL,
+            }
             process = start(words, **ends)
             time.sleep(draw.uniform(0, 0.15))
             process.send_signal(draw.choice(SIGNALS))
             process.wait(LIMIT)
             text = read(f"{room}/record")
-            well = text.startswith(whole) and text[len(whole) :] in (b"0 peek 0 8000", b"", *(end[: n + 1] for n in range(len(end))))
+            well = text.startswith(whole) and text[len(whole) :] in (
+                b"0 peek 0 8000",
+                b"",
+                *(end[: n + 1] for n in range(len(end))),
+            )
             must(well, f"turn {turn}: {text[len(whole):]!r} stands behind the entries")
         status, told = resume(room, shape, names)
-        must(status == 0 and read(f"{room}/record") == whole + end, f"at last: status {status}, {told!r}")
+        must(
+            status == 0 and read(f"{room}/record") == whole + end,
+            f"at last: status {status}, {told!r}",
+        )
         return 41
 
 
 def try_full_disk():
-    """A record's disk is full after some entries: no call that isn't kept is told, and what is kept goes on where there is room."""
+    """A record's disk is full after some entries: no call that isn't kept is told, and what is kept
+    goes on where there is room."""
     looked = 0
     for turn in range(12):
         draw, shape = random.Random(f"full {turn}"), (16, 2, 2)
@@ -398,22 +503,32 @@ def try_full_disk():
             said = [list(sayings) for sayings, _ in parts]
             must(status in (1, 3), f"full {turn}: status {status}, {out!r}, {err[:300]!r}")
             for line in out.splitlines():
-                must(line.startswith("session ") or line == "ended record", f"full {turn}: {line!r} is told")
-            must(os.path.getsize(f"{room}/record") <= room_left, f"full {turn}: the file is longer than it can be")
+                must(
+                    line.startswith("session ") or line == "ended record",
+                    f"full {turn}: {line!r} is told",
+                )
+            must(
+                os.path.getsize(f"{room}/record") <= room_left,
+                f"full {turn}: the file is longer than it can be",
+            )
             record = judge(room, shape, host.names, said)
             host = Host(room, shape, draw, 2, 5, "--resume", "--image-out", f"{room}/left")
             host.go_on(LIMIT)
             out, err, status, parts = host.end()
             for sayings, (more, _) in zip(said, parts):
                 sayings.extend([None, *more])
-            must(status == 0 and (record := judge(room, shape, host.names, said)).ended, f"full {turn}: resumed, status {status}, {out!r}, {err[:300]!r}")
+            must(
+                status == 0 and (record := judge(room, shape, host.names, said)).ended,
+                f"full {turn}: resumed, status {status}, {out!r}, {err[:300]!r}",
+            )
             looked += len(record.entries)
     return looked
 
 
 def try_taken_away():
-    """The file of a record is moved, or unlinked, while clients are at work. They go on, and in the end the host tells it, and leaves no image;
-    where it was moved it has all, where it was unlinked there is none."""
+    """The file of a record is moved, or unlinked, while clients are at work. They go on, and in the
+    end the host tells it, and leaves no image; where it was moved it has all, where it was unlinked
+    there is none."""
     for turn, is_moved in enumerate([True, False] * 3):
         draw, shape = random.Random(f"away {turn}"), (4, 2, 1)
         with tempfile.TemporaryDirectory(prefix="moments-") as room:
@@ -421,11 +536,17 @@ def try_taken_away():
             until = time.monotonic() + LIMIT
             while not recorded(room) and host.process.poll() is None and time.monotonic() < until:
                 host.go_on(0.005)
-            os.rename(f"{room}/record", f"{room}/moved") if is_moved else os.unlink(f"{room}/record")
+            os.rename(f"{room}/record", f"{room}/moved") if is_moved else os.unlink(
+                f"{room}/record"
+            )
             host.go_on(LIMIT)
             out, err, status, parts = host.end()
             told = f"exchange: {room}/record: its name leads to another file now, or to none\n"
-            well = status == 3 and err.startswith(told) and not any(os.path.exists(f"{room}/{name}") for name in ("record", "left"))
+            well = (
+                status == 3
+                and err.startswith(told)
+                and not any(os.path.exists(f"{room}/{name}") for name in ("record", "left"))
+            )
             must(well, f"away {turn}: status {status}, {out!r}, {err[:300]!r}")
             if is_moved:
                 os.rename(f"{room}/moved", f"{room}/record")
@@ -436,8 +557,18 @@ def try_taken_away():
 
 # ---- the judges alone
 
-ENTRIES = [("poke 0 80000800 00000001\n", "poked"), ("fetch 1\n", "fetched"), ("settle 1\n", "planned 1 settings 1"), ("peek 0 80000800\n", "word 00000001")]
-SAID = [("poke 0 80000800 00000001", "poked"), ("plan 1", "planned 1 settings 1"), ("progress", "progress run 0 done 0"), ("peek 0 80000800", "word 00000001")]
+ENTRIES = [
+    ("poke 0 80000800 00000001\n", "poked"),
+    ("fetch 1\n", "fetched"),
+    ("settle 1\n", "planned 1 settings 1"),
+    ("peek 0 80000800\n", "word 00000001"),
+]
+SAID = [
+    ("poke 0 80000800 00000001", "poked"),
+    ("plan 1", "planned 1 settings 1"),
+    ("progress", "progress run 0 done 0"),
+    ("peek 0 80000800", "word 00000001"),
+]
 
 
 def is_wrong(judge_it):
@@ -473,51 +604,103 @@ def try_judge_of_clients():
     ]
     wrong = [(without(ENTRIES, at), SAID) for at in range(4)]
     wrong += [(ENTRIES, without(SAID, at)) for at in (0, 1, 3)]
-    wrong += [([*ENTRIES[:at], (ENTRIES[at][0], "other"), *ENTRIES[at + 1 :]], SAID) for at in range(4)]
-    wrong += [(ENTRIES[::-1], SAID), (ENTRIES + ENTRIES[:1], SAID), (ENTRIES, [*SAID[:3], ("peek 0 80000804", None)])]
+    wrong += [
+        ([*ENTRIES[:at], (ENTRIES[at][0], "other"), *ENTRIES[at + 1 :]], SAID) for at in range(4)
+    ]
+    wrong += [
+        (ENTRIES[::-1], SAID),
+        (ENTRIES + ENTRIES[:1], SAID),
+        (ENTRIES, [*SAID[:3], ("peek 0 80000804", None)]),
+    ]
     unheard = [(command, None) for command, _ in SAID]
-    right += [(ENTRIES[:count], unheard) for count in range(5)] + [(ENTRIES[:2], SAID[:1] + unheard[1:])]
+    right += [(ENTRIES[:count], unheard) for count in range(5)] + [
+        (ENTRIES[:2], SAID[:1] + unheard[1:])
+    ]
     right += [(ENTRIES[:1] + ENTRIES[3:], SAID[:1] + unheard[1:3] + SAID[3:])]
     right += [(ENTRIES[:1] + ENTRIES[3:], [*unheard, None, unheard[3]])]
-    wrong += [(ENTRIES[3:], unheard), (ENTRIES[:1] + ENTRIES[3:], unheard), (ENTRIES[1:], unheard), (ENTRIES[:1], SAID[:2] + unheard[2:])]
+    wrong += [
+        (ENTRIES[3:], unheard),
+        (ENTRIES[:1] + ENTRIES[3:], unheard),
+        (ENTRIES[1:], unheard),
+        (ENTRIES[:1], SAID[:2] + unheard[2:]),
+    ]
     for entries, said in right:
         judge_client(entries, said)
     for entries, said in wrong:
-        must(is_wrong(lambda: judge_client(entries, said)), f"the judge of clients lets {entries} and {said} through")
+        must(
+            is_wrong(lambda: judge_client(entries, said)),
+            f"the judge of clients lets {entries} and {said} through",
+        )
     return len(right) + len(wrong)
 
 
 def try_reader():
-    """The reader of records: a record cut at each byte has its whole entries and a rest that can be torn; one that is spoilt hasn't."""
+    """The reader of records: a record cut at each byte has its whole entries and a rest that can be
+    torn; one that is spoilt hasn't."""
     looked = 0
     for turn in range(20):
         draw = random.Random(f"reader {turn}")
-        shape, names = (draw.randint(2, 4), draw.randint(2, 3), draw.randint(1, 2)), ["amy", "x/bob c", "é"]
+        shape, names = (
+            (draw.randint(2, 4), draw.randint(2, 3), draw.randint(1, 2)),
+            ["amy", "x/bob c", "é"],
+        )
         text = made_record(draw, shape, names, 12)
         record = Record(text)
         head = len(head_of(shape, bytes(4 * shape[0] * shape[1] * shape[2]), names))
-        well = (record.ends[0], record.ends[-1], record.ended, record.names) == (head, len(text) - len(end_of(12)), True, names)
+        well = (record.ends[0], record.ends[-1], record.ended, record.names) == (
+            head,
+            len(text) - len(end_of(12)),
+            True,
+            names,
+        )
         must(well, f"turn {turn}: a record isn't read as it is")
         for cut in range(len(text)):
             if cut < head:
-                must(is_wrong(lambda: Record(text[:cut])), f"turn {turn}: a head that ends at {cut} is read")
+                must(
+                    is_wrong(lambda: Record(text[:cut])),
+                    f"turn {turn}: a head that ends at {cut} is read",
+                )
                 continue
             part = Record(text[:cut])
-            well = part.entries == record.entries[: len(part.entries)] and part.ends[-1] == max(end for end in record.ends if end <= cut)
+            well = part.entries == record.entries[: len(part.entries)] and part.ends[-1] == max(
+                end for end in record.ends if end <= cut
+            )
             must(well, f"turn {turn}: cut at {cut} it has other entries")
             if cut in record.ends:
                 part.go_on(text)
-                must((part.entries, part.ended, part.rest) == (record.entries, True, record.rest), f"turn {turn}: from {cut} on it has other entries")
+                must(
+                    (part.entries, part.ended, part.rest) == (record.entries, True, record.rest),
+                    f"turn {turn}: from {cut} on it has other entries",
+                )
             looked += 1
         last = record.ends[-1]
-        spoilt = [text + b"\n", text + b"0 show 1\n", text[:last] + bytes(1), text[:last] + summed(12, b"0 progress\n"), text[:last] + end_of(11)]
-        spoilt += [text.replace(b"client amy", b"Client amy"), text.replace(b"client amy", b"client emy"), text[head:]]
-        spoilt += [head_of(shape, bytes([1]) * (4 * shape[0] * shape[1] * shape[2]), names) + text[head:]]
+        spoilt = [
+            text + b"\n",
+            text + b"0 show 1\n",
+            text[:last] + bytes(1),
+            text[:last] + summed(12, b"0 progress\n"),
+            text[:last] + end_of(11),
+        ]
+        spoilt += [
+            text.replace(b"client amy", b"Client amy"),
+            text.replace(b"client amy", b"client emy"),
+            text[head:],
+        ]
+        spoilt += [
+            head_of(shape, bytes([1]) * (4 * shape[0] * shape[1] * shape[2]), names) + text[head:]
+        ]
         for at, entry in enumerate(record.entries):
             begin, end = record.ends[at], record.ends[at + 1]
             lines = text[begin:end].partition(b"=")[0]
-            spoilt += [text[:begin] + text[end:], text[:begin] + b"9" + text[begin:], text[:begin] + summed(at, b"9" + lines) + text[end:]]
-            spoilt += [text[:begin] + summed(at, lines + b"other\n") + text[end:], text[:begin] + summed(at + 1, lines) + text[end:]]
+            spoilt += [
+                text[:begin] + text[end:],
+                text[:begin] + b"9" + text[begin:],
+                text[:begin] + summed(at, b"9" + lines) + text[end:],
+            ]
+            spoilt += [
+                text[:begin] + summed(at, lines + b"other\n") + text[end:],
+                text[:begin] + summed(at + 1, lines) + text[end:],
+            ]
         for it in spoilt:
             if not is_wrong(lambda: Record(it)):
                 raise Wrong(f"turn {turn}: a spoilt record is read: {it!r}")
@@ -529,9 +712,37 @@ def try_rests():
     """What may stand behind the entries of a record, and what may not."""
     head = head_of((2, 1, 1), bytes(8), [])
     end, entry = end_of(0), summed(0, b"0 peek 0 80000800\nword 00000000\n")
-    may = [end, entry, *(end[:cut] for cut in range(len(end))), *(entry[:cut] for cut in range(len(entry))), b"x", b"x" * 1000, b"\n \n~", b"0 batch 4097\n"]
-    may_not = [end + b"\n", end_of(1), entry + entry, entry + end, summed(0, b"end 1\n"), summed(0, b""), b"=\n", b"= \n", entry[:-1] + b" \n"]
-    may_not += [b"x\0", b"\t", b"0 peek 0 80000800\r\n", bytes(512), b"\xc3\xa9", b"\x7f", entry + bytes(1), summed(0, b"0 peek 0 80000800\nword 00000001\n")]
+    may = [
+        end,
+        entry,
+        *(end[:cut] for cut in range(len(end))),
+        *(entry[:cut] for cut in range(len(entry))),
+        b"x",
+        b"x" * 1000,
+        b"\n \n~",
+        b"0 batch 4097\n",
+    ]
+    may_not = [
+        end + b"\n",
+        end_of(1),
+        entry + entry,
+        entry + end,
+        summed(0, b"end 1\n"),
+        summed(0, b""),
+        b"=\n",
+        b"= \n",
+        entry[:-1] + b" \n",
+    ]
+    may_not += [
+        b"x\0",
+        b"\t",
+        b"0 peek 0 80000800\r\n",
+        bytes(512),
+        b"\xc3\xa9",
+        b"\x7f",
+        entry + bytes(1),
+        summed(0, b"0 peek 0 80000800\nword 00000001\n"),
+    ]
     for rest in may:
         Record(head + rest)
     for rest in may_not:
@@ -564,7 +775,8 @@ def numbers_of(count):
 
 
 def leave(*_):
-    """Ends this process so that its hosts and its folder go with it. Another signal leaves it the time for that."""
+    """Ends this process so that its hosts and its folder go with it.
+    Another signal leaves it the time for that."""
     signal.signal(signal.SIGTERM, signal.SIG_IGN)
     sys.exit(1)
 
@@ -584,7 +796,13 @@ def kill(count):
             CHECKS.update(checks)
             if why:
                 wrong.append(why)
-    print(f"moments: {killed} hosts of {CLIENTS} clients killed, {entries} entries, {len(wrong)} rounds wrong", flush=True)
+    print(
+        (
+            f"moments: {killed} hosts of {CLIENTS} clients killed, {entries} entries, "
+            f"{len(wrong)} rounds wrong"
+        ),
+        flush=True,
+    )
     for why in wrong[:5]:
         print(f"moments: WRONG: {why}")
     return len(wrong)
@@ -595,7 +813,9 @@ def main():
     what = sys.argv[1] if len(sys.argv) > 1 else "200"
     failed = try_all([try_judge_of_clients, try_reader, try_rests])
     if what != "self":
-        failed += kill(int(what)) + try_all([try_cuts, try_other_heads, try_killed_resuming, try_full_disk, try_taken_away])
+        failed += kill(int(what)) + try_all(
+            [try_cuts, try_other_heads, try_killed_resuming, try_full_disk, try_taken_away]
+        )
     print(f"moments: {len(CHECKS)} checks, {failed} wrong")
     sys.exit(1 if failed else 0)
 

@@ -114,5 +114,8 @@ class Host:
         """What it has to print, and its status, where these clients' sessions ended by a fault."""
         lines = []
         for number, name in enumerate(self.names):
-            lines += [f"session {number} {name}", *([f"ended {faults[name]}"] if name in faults else [])]
+            lines += [
+                f"session {number} {name}",
+                *([f"ended {faults[name]}"] if name in faults else []),
+            ]
         return lines, 1 if faults else 0

@@ -1,11 +1,14 @@
 #!/usr/bin/env bash
 # Live clients of `exchange host`, over named pipes: tools/hosts/run.sh [COUNT]
 #
-# hosts.py makes the pipes, and is each client. It also runs the walks of docs/GUIDE.md, in two shells, and examples/all-reduce.py. files.py
-# looks at the order in which each command opens, locks, writes, syncs and renames its files, and lets that fail; bursts.py at that in which a host
-# writes its record and its replies. moments.py kills hosts at random moments, COUNT times, 200 where it isn't said, and looks at what their records
-# have. flips.py spoils records, of their bits here each ninth, and asks `replay`, or a session that goes on with them. A program that isn't built yet, or is older than its
-# sources, is proved and built first. Another one is tried where EXCHANGE names it.
+# hosts.py makes the pipes, and is each client. It also runs the walks of docs/GUIDE.md, in two
+# shells, and examples/all-reduce.py. files.py looks at the order in which each command opens,
+# locks, writes, syncs and renames its files, and lets that fail; bursts.py at that in which a host
+# writes its record and its replies. moments.py kills hosts at random moments, COUNT times, 200
+# where it isn't said, and looks at what their records have. flips.py spoils records, of their bits
+# here each ninth, and asks `replay`, or a session that goes on with them. A program that isn't
+# built yet, or is older than its sources, is proved and built first. Another one is tried where
+# EXCHANGE names it.
 set -euo pipefail
 unset CDPATH
 here=$(cd "$(dirname "${BASH_SOURCE[0]}")" && pwd)

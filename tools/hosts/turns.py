@@ -58,7 +58,12 @@ FAILING = [
 ]  # fmt: skip
 
 # What an event is by its call and the name of the file. What fails is none.
-EVENTS = {("read", "socket"): "a", ("sync", "record"): "k", ("write", "pipe"): "t", ("write", "err"): "r"}
+EVENTS = {
+    ("read", "socket"): "a",
+    ("sync", "record"): "k",
+    ("write", "pipe"): "t",
+    ("write", "err"): "r",
+}
 
 
 def calls_of(name: str) -> list[tuple[str, str, int]]:
@@ -76,7 +81,10 @@ def course(calls: Sequence[tuple[str, str, int]], told: bytes) -> str:
             event, at = f"t{told.count(bytes([10]), at, at + count)}", at + count
         events.append(event)
     begin = next((n for n, event in enumerate(events) if event == "a"), len(events))
-    end = max((n for n, (call, file, _) in enumerate(calls) if file in ("socket", "pipe", "err")), default=0)
+    end = max(
+        (n for n, (call, file, _) in enumerate(calls) if file in ("socket", "pipe", "err")),
+        default=0,
+    )
     return " ".join(event for event in events[begin : end + 1] if event)
 
 
@@ -120,13 +128,23 @@ def port_fails() -> Iterator[tuple[object, object]]:
             number += 1
             Path("p.in").write_bytes(b"")
             Path("calls").unlink(missing_ok=True)
-            env = {"LD_PRELOAD": CALLS, "CALLS_LOG": "calls", "CALLS_FAIL": f"{call}:{file}:{number}:5"}
+            env = {
+                "LD_PRELOAD": CALLS,
+                "CALLS_LOG": "calls",
+                "CALLS_FAIL": f"{call}:{file}:{number}:5",
+            }
             words = [EXCHANGE, "drive", THREE, "p", "--go-on"]
             run = subprocess.run(words, stdin=subprocess.DEVNULL, capture_output=True, env=env)
-            own = [it for it in calls_of("calls") if it[:2] in (("read", "p.out"), ("write", "p.in"))]
+            own = [
+                it for it in calls_of("calls") if it[:2] in (("read", "p.out"), ("write", "p.in"))
+            ]
             failed = [at for at, it in enumerate(own) if it[2] < 0]
             is_whole, lines = not failed, run.stdout.decode().splitlines()
-            wanted = ("driven settings 2", 0) if is_whole else (f"stopped setting {len(lines) - 1} port", 1)
+            wanted = (
+                ("driven settings 2", 0)
+                if is_whole
+                else (f"stopped setting {len(lines) - 1} port", 1)
+            )
             found = lines[-1], run.returncode, failed in ([], [len(own) - 1])
             yield (call, number, *found), (call, number, *wanted, True)
         yield number > 2, True

@@ -1,8 +1,10 @@
 #!/usr/bin/env bash
-# Gathers all that is installed, and that a release has, in a new folder: tools/install/gather.sh FOLDER MODULES PAGES
+# Gathers all that is installed, and that a release has, in a new folder:
+# tools/install/gather.sh FOLDER MODULES PAGES
 #
-# MODULES is the folder below FOLDER/lib where the module for Python is, and PAGES what the manual calls the folder of the pages. What
-# isn't built is proved and built first. Nothing that is put there names FOLDER: it may be moved.
+# MODULES is the folder below FOLDER/lib where the module for Python is, and PAGES what the manual
+# calls the folder of the pages. What isn't built is proved and built first. Nothing that is put
+# there names FOLDER: it may be moved.
 set -euo pipefail
 unset CDPATH
 umask 022
@@ -23,8 +25,8 @@ put() {
 put 755 "$top/crates/exchange/out/exchange" bin/exchange
 version=$("$all/bin/exchange" --version | cut -d' ' -f2)
 
-# The library for C, with the file of the kit that it takes its memory by; and the same as a shared library, which gives out calls alone.
-# Its name has the version's first number.
+# The library for C, with the file of the kit that it takes its memory by; and the same as a shared
+# library, which gives out calls alone. Its name has the version's first number.
 shared=libexchange.so.${version%%.*}
 (cd "$work/library" && ar x "$top/crates/exchange_c/out/libexchange_c.a")
 (cd "$work/allocator" && ar x "$(dirname "$(rt doc)")/c/liblibc_c.a")
@@ -50,8 +52,10 @@ Libs: -L\${prefix}/lib -l:libexchange.a
 END_OF_TEXT
 put 644 "$work/exchange.pc" lib/pkgconfig/exchange.pc
 
-# The pages and the files of their examples, as they are in a clone; and what is made of the helps, for `man` and for shells.
+# The pages and the files of their examples, as they are in a clone;
+# and what is made of the helps, for `man` and for shells.
 mkdir -p "$all/share/doc/exchange"
-(cd "$top" && find README.md CHANGES.md CONTRIBUTING.md docs/*.md rows/help examples -type f | tar --mode=u=rwX,go=rX -T - -cf -) |
+(cd "$top" && find README.md CHANGES.md CONTRIBUTING.md docs/*.md rows/help examples -type f |
+    tar --mode=u=rwX,go=rX -T - -cf -) |
     tar -C "$all/share/doc/exchange" --no-same-owner -xpf -
 "$here/pages.py" "$all/bin/exchange" "$pages" "$all/share"

@@ -1,8 +1,10 @@
 #!/usr/bin/env bash
-# Puts the program, and the library for programs in C and in Python, into a folder: tools/install/install.sh [PREFIX]
+# Puts the program, and the library for programs in C and in Python, into a folder:
+# tools/install/install.sh [PREFIX]
 #
-# `./exchange install` calls this. PREFIX is ~/.local where it isn't said. What isn't built is proved and built first. What an earlier
-# install put there is replaced; where another file is in the way, nothing is put. uninstall.sh takes all away.
+# `./exchange install` calls this. PREFIX is ~/.local where it isn't said. What isn't built is
+# proved and built first. What an earlier install put there is replaced; where another file is in
+# the way, nothing is put. uninstall.sh takes all away.
 set -euo pipefail
 unset CDPATH
 umask 022
@@ -17,14 +19,16 @@ done
 work=$(mktemp -d)
 trap 'rm -rf "$work"' EXIT
 
-# The folder of the module for Python: where python3 looks below the prefix, or would look if the folder were there, and else where modules usually are.
+# The folder of the module for Python: where python3 looks below the prefix, or would look if the
+# folder were there, and else where modules usually are.
 python=$prefix/bin/python3
 [ -x "$python" ] || python=python3
 modules=$("$python" - "$prefix" <<'END_OF_PYTHON'
 import os, site, sys
 
 lib = os.path.join(os.path.realpath(sys.argv[1]), "lib")
-looks = [os.path.realpath(it) for it in [*sys.path, site.getusersitepackages()] if it.endswith("-packages")]
+paths = [*sys.path, site.getusersitepackages()]
+looks = [os.path.realpath(it) for it in paths if it.endswith("-packages")]
 fits = [os.path.relpath(it, lib) for it in looks if os.path.dirname(os.path.dirname(it)) == lib]
 print([*fits, "python%d.%d/site-packages" % sys.version_info[:2]][0])
 END_OF_PYTHON
@@ -34,7 +38,9 @@ END_OF_PYTHON
 # What is in the way.
 cd "$work/all"
 mapfile -t files < <(find . ! -type d -printf '%P\n' | LC_ALL=C sort)
-mapfile -t folders < <({ find . -type d -printf '%p/\n'; printf '%s/\n' ./share ./share/exchange; } | LC_ALL=C sort -u)
+mapfile -t folders < <(
+    { find . -type d -printf '%p/\n'; printf '%s/\n' ./share ./share/exchange; } | LC_ALL=C sort -u
+)
 faults=()
 for file in "$list" "${files[@]}"; do
     if [ -e "$prefix/$file" ] || [ -L "$prefix/$file" ]; then
@@ -43,12 +49,14 @@ for file in "$list" "${files[@]}"; do
 done
 for folder in "${folders[@]}"; do
     if [ -e "$prefix/${folder%/}" ]; then
-        [ -d "$prefix/$folder" ] && [ -w "$prefix/$folder" ] || faults+=("$prefix/$folder is no folder that can be written to")
+        [ -d "$prefix/$folder" ] && [ -w "$prefix/$folder" ] ||
+            faults+=("$prefix/$folder is no folder that can be written to")
     fi
 done
 [ ${#faults[@]} -eq 0 ] || fail 1 "${faults[@]}" "so nothing is installed"
 
-# The list comes first, so that uninstall.sh takes away all that was put, also where this is interrupted.
+# The list comes first, so that uninstall.sh takes away all that was put,
+# also where this is interrupted.
 [ ! -e "$prefix/$list" ] || "$here/uninstall.sh" "$prefix" >/dev/null
 for folder in "${folders[@]}"; do
     [ -d "$prefix/$folder" ] || echo "$folder"
@@ -62,8 +70,10 @@ done
 
 echo "exchange: installed in $prefix:"
 printf '  %s\n' "${files[@]}" "$list"
-[ "$(command -v exchange)" = "$prefix/bin/exchange" ] || echo "For the shell:      export PATH=$prefix/bin:\$PATH"
+[ "$(command -v exchange)" = "$prefix/bin/exchange" ] ||
+    echo "For the shell:      export PATH=$prefix/bin:\$PATH"
 [ "$(pkg-config --variable=prefix exchange 2>/dev/null)" -ef "$prefix" ] ||
     echo "For pkg-config:     export PKG_CONFIG_PATH=$prefix/lib/pkgconfig"
 found=$(cd / && "$python" -B -c 'import exchange; print(exchange.__file__)' 2>/dev/null) || true
-[ "$found" -ef "$prefix/lib/$modules/exchange.py" ] || echo "For Python:         export PYTHONPATH=$prefix/lib/$modules"
+[ "$found" -ef "$prefix/lib/$modules/exchange.py" ] ||
+    echo "For Python:         export PYTHONPATH=$prefix/lib/$modules"

@@ -1,9 +1,12 @@
 #!/usr/bin/env python3
 """Makes what is installed beside the program and the library: pages.py PROGRAM PAGES SHARE
 
-    a page for `man`      what `PROGRAM --help` and each `PROGRAM COMMAND --help` say, line by line; the files of their examples are those below PAGES
-    a file for each shell what bash, zsh and fish complete: commands, and the options of each; other words are names of files
-    documents             those below SHARE/doc/exchange, without links to what isn't there: of these the words are left
+    a page for `man`      what `PROGRAM --help` and each `PROGRAM COMMAND --help` say, line by line;
+                          the files of their examples are those below PAGES
+    a file for each shell what bash, zsh and fish complete: commands, and the options of each; other
+                          words are names of files
+    documents             those below SHARE/doc/exchange, without links to what isn't there:
+                          of these the words are left
 """
 
 import re
@@ -12,15 +15,29 @@ import sys
 from pathlib import Path
 
 # What roff would take for something else, and how it is told not to.
-ESCAPES = {"\\": r"\(rs", "-": r"\-", "'": r"\(aq", "`": r"\(ga", "^": r"\(ha", "~": r"\(ti", ".": r"\&."}
+ESCAPES = {
+    "\\": r"\(rs",
+    "-": r"\-",
+    "'": r"\(aq",
+    "`": r"\(ga",
+    "^": r"\(ha",
+    "~": r"\(ti",
+    ".": r"\&.",
+}
 
 # What a file says first of itself by which a shell completes.
-MADE = "# What {} completes behind `exchange`. tools/install/pages.py made this of what `exchange --help` says."
+MADE = (
+    "# What {} completes behind `exchange`. tools/install/pages.py made this of what `exchange "
+    "--help` says."
+)
 
 
 def say(program, *words):
-    """What the program says where it is called by its name alone, as one is that the shell finds on the PATH."""
-    return subprocess.run(["exchange", *words], executable=program, stdout=subprocess.PIPE, check=True).stdout.decode()
+    """What the program says where it is called by its name alone,
+    as one is that the shell finds on the PATH."""
+    return subprocess.run(
+        ["exchange", *words], executable=program, stdout=subprocess.PIPE, check=True
+    ).stdout.decode()
 
 
 def listed(help_text, heading):
@@ -54,11 +71,19 @@ def at_docs(text, docs):
 
 
 def manual(version, top, commands, docs):
-    top, commands = at_docs(top, docs), {name: at_docs(text, docs) for name, text in commands.items()}
+    top, commands = (
+        at_docs(top, docs),
+        {name: at_docs(text, docs) for name, text in commands.items()},
+    )
     about = re.search(r"^(.*)\n\nUsage: ", top, re.MULTILINE)[1]
     head = f'.TH EXCHANGE 1 "" "{escaped(version)}"\n.SH NAME\nexchange \\- {escaped(about)}\n'
     synopsis = section("SYNOPSIS", "\n".join(map(usage, commands.values())))
-    return head + synopsis + section("DESCRIPTION", top) + "".join(section(f"exchange {name}", commands[name]) for name in commands)
+    return (
+        head
+        + synopsis
+        + section("DESCRIPTION", top)
+        + "".join(section(f"exchange {name}", commands[name]) for name in commands)
+    )
 
 
 def options(help_text):
@@ -67,13 +92,21 @@ def options(help_text):
 
 
 def words_of(top, commands):
-    """What may stand behind the program's name, what behind `help`, and the options of each command by its name."""
+    """What may stand behind the program's name, what behind `help`,
+    and the options of each command by its name."""
     names = " ".join(commands)
-    return f"{names} help {options(top)}", names, {name: options(text) for name, text in commands.items()}
+    return (
+        f"{names} help {options(top)}",
+        names,
+        {name: options(text) for name, text in commands.items()},
+    )
 
 
 def bash(first, names, commands):
-    cases = "".join(f"    2:{name}) words='{words}' ;;\n" for name, words in [*commands.items(), ("help", names)])
+    cases = "".join(
+        f"    2:{name}) words='{words}' ;;\n"
+        for name, words in [*commands.items(), ("help", names)]
+    )
     return f"""\
 {MADE.format("bash")}
 _exchange() {{
@@ -92,7 +125,9 @@ complete -o bashdefault -o default -F _exchange exchange
 
 
 def zsh(first, names, commands):
-    cases = "".join(f"2:{name}) known=({words}) ;;\n" for name, words in [*commands.items(), ("help", names)])
+    cases = "".join(
+        f"2:{name}) known=({words}) ;;\n" for name, words in [*commands.items(), ("help", names)]
+    )
     return f"""\
 #compdef exchange
 {MADE.format("zsh")}
@@ -111,7 +146,9 @@ fi
 
 def fish(first, names, commands):
     behind = "complete -c exchange -n 'contains -- {} (commandline -opc)[2]'"
-    cases = "".join(f"{behind.format(name)} {words.replace('--', '-l ')}\n" for name, words in commands.items())
+    cases = "".join(
+        f"{behind.format(name)} {words.replace('--', '-l ')}\n" for name, words in commands.items()
+    )
     return f"""\
 {MADE.format("fish")}
 complete -c exchange -n 'test (count (commandline -opc)) = 1' -f -a '{first}'
@@ -128,7 +165,10 @@ def unlinked(page):
 
     # What is shown between two lines of marks has no links.
     parts = re.split(r"(?ms)(^```.*?^```$)", page.read_text(encoding="utf-8"))
-    return "".join(part if k % 2 else re.sub(r"\[([^\]]+)\]\(([^)\s]+)\)", kept, part) for k, part in enumerate(parts))
+    return "".join(
+        part if k % 2 else re.sub(r"\[([^\]]+)\]\(([^)\s]+)\)", kept, part)
+        for k, part in enumerate(parts)
+    )
 
 
 def main(program, pages, share):

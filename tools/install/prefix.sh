@@ -1,6 +1,7 @@
 # What install.sh and uninstall.sh share: sourced with their words, it says which folder is meant.
 
-# What was put there: the folders that were made, each with a slash at its end, then this list itself, then all other files.
+# What was put there: the folders that were made, each with a slash at its end, then this list
+# itself, then all other files.
 list=share/exchange/installed
 
 # Ends with the status, and says why.

@@ -1,8 +1,9 @@
 #!/usr/bin/env bash
 # Takes away what install.sh put into a folder: tools/install/uninstall.sh [PREFIX]
 #
-# `./exchange uninstall` calls this. It goes by the list that install.sh left there, from its end to its beginning: first the files, and
-# then the folders that were made for them, where nothing else is in them.
+# `./exchange uninstall` calls this. It goes by the list that install.sh left there, from its end to
+# its beginning: first the files, and then the folders that were made for them, where nothing else
+# is in them.
 set -euo pipefail
 unset CDPATH
 source "$(dirname "$(readlink -f "${BASH_SOURCE[0]}")")/prefix.sh"

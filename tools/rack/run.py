@@ -1,26 +1,37 @@
 #!/usr/bin/env python3
-"""Tries the rack of processes of examples/rack, behind the relay and the cable of examples/board: tools/rack/run.py [COUNT] [WORD]
+"""Tries the rack of processes of examples/rack, behind the relay and the cable of examples/board:
+tools/rack/run.py [COUNT] [WORD]
 
-    racks     each case is a run: host.py fills the modules with an image, has `exchange drive` set the switch over one cable, and reads the
-              modules in the end; a process for each module obeys its orders, by the plan, a steady plan or a schedule by hand. COUNT random
-              batches follow, 20 where it isn't said. At the end the image has to be the one that `exchange apply` makes
-    rings     modules that do what they are told for link 0 before they look at link 3 hang in a ring, and in a transfer within a module
-    repeats   each setting of each pattern is set and moved twice, the second time by a `drive` that begins with it, and one that isn't the
-              last is denied
-    C         modules are examples/board/module.c, compiled by the tables of orders_to_c.py over channels of inmos/, and so is relay.c, which
-              sets the switch by the tables of switch_to_c.py
-    tables    those of each module of each pattern, and of a switch, in occam and in C, are made into its orders and bytes again
-    boards    modules are on other links of the switch, as a wiring says; and the cable ends at slot 0, behind which a second relay is
-    faults    the cable loses a byte, has one too many, or falls silent, at 20 places each; tables are of another schedule, slots are
-              exchanged, a module is missing or dies in each setting, a second host comes, or what comes is wrong: the host says so and ends, and
+    racks     each case is a run: host.py fills the modules with an image, has `exchange drive` set
+              the switch over one cable, and reads the modules in the end; a process for each module
+              obeys its orders, by the plan, a steady plan or a schedule by hand. COUNT random
+              batches follow, 20 where it isn't said. At the end the image has to be the one that
+              `exchange apply` makes
+    rings     modules that do what they are told for link 0 before they look at link 3 hang in a
+              ring, and in a transfer within a module
+    repeats   each setting of each pattern is set and moved twice, the second time by a `drive` that
+              begins with it, and one that isn't the last is denied
+    C         modules are examples/board/module.c, compiled by the tables of orders_to_c.py over
+              channels of inmos/, and so is relay.c, which sets the switch by the tables of
+              switch_to_c.py
+    tables    those of each module of each pattern, and of a switch, in occam and in C, are made
+              into its orders and bytes again
+    boards    modules are on other links of the switch, as a wiring says; and the cable ends at
+              slot 0, behind which a second relay is
+    faults    the cable loses a byte, has one too many, or falls silent, at 20 places each; tables
+              are of another schedule, slots are exchanged, a module is missing or dies in each
+              setting, a second host comes, or what comes is wrong: the host says so and ends, and
               says `driven` in none
-    misuse    what the programs of the examples say of wrong words, of files, modules and programs that are missing, and of what isn't theirs
-    ends      a cable may be a terminal; a switch alone and a module alone are handed words in parts, and the switch words that come before it
-              has settled; the two loops of the relay carry the bytes of `drive` and `c004`; a cable that ends ends the host; one that is told
-              to end leaves nothing; and where a host is killed the next one goes on
+    misuse    what the programs of the examples say of wrong words, of files, modules and programs
+              that are missing, and of what isn't theirs
+    ends      a cable may be a terminal; a switch alone and a module alone are handed words in
+              parts, and the switch words that come before it has settled; the two loops of the
+              relay carry the bytes of `drive` and `c004`; a cable that ends ends the host; one that
+              is told to end leaves nothing; and where a host is killed the next one goes on
 
-Each has a folder of its own, and as many run at once as there are processors. What isn't built yet is proved and built first, and all is
-installed in a folder for the while. Another one is tried where RACK names it. With WORD only those run that have it in their names.
+Each has a folder of its own, and as many run at once as there are processors. What isn't built yet
+is proved and built first, and all is installed in a folder for the while. Another one is tried
+where RACK names it. With WORD only those run that have it in their names.
 """
 
 import contextlib
@@ -46,7 +57,11 @@ from pathlib import Path
 
 TOP = os.path.dirname(os.path.dirname(os.path.dirname(os.path.abspath(__file__))))
 EXAMPLES = f"{TOP}/examples"
-HOST, RACK, RELAY = f"{EXAMPLES}/board/host.py", f"{EXAMPLES}/rack/rack.py", f"{EXAMPLES}/board/relay.py"
+HOST, RACK, RELAY = (
+    f"{EXAMPLES}/board/host.py",
+    f"{EXAMPLES}/rack/rack.py",
+    f"{EXAMPLES}/board/relay.py",
+)
 sys.path[:0] = f"{TOP}/tools/hostile", f"{EXAMPLES}/board"
 # Nothing is left in the folder of the examples.
 sys.dont_write_bytecode = True
@@ -57,7 +72,8 @@ import relay  # noqa: E402
 import spoil  # noqa: E402
 import tables  # noqa: E402
 
-# Seconds that a run has, those in which one that hangs says nothing more, and those that a host waits for a byte where one is missing.
+# Seconds that a run has, those in which one that hangs says nothing more, and those that a host
+# waits for a byte where one is missing.
 LIMIT, SILENCE, PATIENCE = 300, 2, 3
 
 RING = "batch 4\npush 0 0 1 0\npush 1 0 2 0\npush 2 0 3 0\npush 3 0 0 0\n"
@@ -68,7 +84,10 @@ BACKWARDS = "batch 3\npull 2 0 0 0\npush 3 0 2 1\npush 3 1 0 1\n"
 APART = "settings 3\nsetting 0\nsetting 1\nsetting 2\n"
 
 # In place of INMOS's headers, and the words of the compiler.
-INMOS, FLAGS = f"{TOP}/tools/rack/inmos", ["-std=c89", "-Wall", "-Wextra", "-Wno-strict-prototypes", "-Werror"]
+INMOS, FLAGS = (
+    f"{TOP}/tools/rack/inmos",
+    ["-std=c89", "-Wall", "-Wextra", "-Wno-strict-prototypes", "-Werror"],
+)
 
 
 def read(name):
@@ -91,8 +110,18 @@ CASES = [
     ("a steady plan of a transposition", "10x10x4", transposition(10), ["--steady"]),
     ("a schedule by hand", "3x2x2", read("three-transfers.txt"), APART),
     ("a swap, one at a time", "2x1x2", read("swap.txt"), "settings 2\nsetting 0\nsetting 1\n"),
-    ("a rotation, the other way round", "3x1x2", read("ring.txt"), "settings 3\nsetting 2\nsetting 1\nsetting 0\n"),
-    ("empty settings", "3x1x2", read("relay.txt"), "settings 4\nsetting\nsetting 1\nsetting\nsetting 0\n"),
+    (
+        "a rotation, the other way round",
+        "3x1x2",
+        read("ring.txt"),
+        "settings 3\nsetting 2\nsetting 1\nsetting 0\n",
+    ),
+    (
+        "empty settings",
+        "3x1x2",
+        read("relay.txt"),
+        "settings 4\nsetting\nsetting 1\nsetting\nsetting 0\n",
+    ),
     ("a ring", "4x1x16", RING, []),
     ("a ring of all modules", "16x2x1", read("patterns/ring-shift.txt"), []),
     ("a transfer within a module", "2x4x2", WITHIN, []),
@@ -109,18 +138,31 @@ CASES = [
     ("nine modules over a wiring", "9x9x2", transposition(9), ["--wiring", "turned", "--steady"]),
 ]
 
-# The wirings of these cases. The second has no link 0 of module 0, no link 3 of module 3, and no module 1.
+# The wirings of these cases. The second has no link 0 of module 0, no link 3 of module 3,
+# and no module 1.
 WIRINGS = {
-    "wiring": "wiring 3\nmodule 0 link 0 at 4 link 3 at 21\nmodule 1 link 0 at 5 link 3 at 22\nmodule 2 link 0 at 11 link 3 at 0\n",
-    "backwards": "wiring 3\nmodule 0 link 0 none link 3 at 31\nmodule 2 link 0 at 30 link 3 at 29\nmodule 3 link 0 at 1 link 3 none\n",
-    "turned": "wiring 16\n" + "".join(f"module {m} link 0 at {16 + m} link 3 at {m}\n" for m in range(16)),
+    "wiring": (
+        "wiring 3\nmodule 0 link 0 at 4 link 3 at 21\nmodule 1 link 0 at 5 link 3 at 22\n"
+        "module 2 link 0 at 11 link 3 at 0\n"
+    ),
+    "backwards": (
+        "wiring 3\nmodule 0 link 0 none link 3 at 31\nmodule 2 link 0 at 30 link 3 at 29\n"
+        "module 3 link 0 at 1 link 3 none\n"
+    ),
+    "turned": "wiring 16\n"
+    + "".join(f"module {m} link 0 at {16 + m} link 3 at {m}\n" for m in range(16)),
 }
 
 # What runs with modules in C, each with the words or the schedule by which it goes.
 IN_C = [
     ("the plan", "3x2x2", read("three-transfers.txt"), []),
     ("a swap", "2x1x256", read("swap.txt"), []),
-    ("a ring, the other way round", "3x1x2", read("ring.txt"), "settings 3\nsetting 2\nsetting 1\nsetting 0\n"),
+    (
+        "a ring, the other way round",
+        "3x1x2",
+        read("ring.txt"),
+        "settings 3\nsetting 2\nsetting 1\nsetting 0\n",
+    ),
     ("a steady plan", "4x24x1", read("patterns/three-blocks.txt"), ["--steady"]),
     ("two switches", "17x2x2", read("wide-rack.txt"), []),
 ]
@@ -143,7 +185,10 @@ except (EOFError, ConnectionError):
 """
 
 # It dies once it is told of setting K, or gives another number back than 0.
-DIES = "orders = module.Module.orders\nmodule.Module.orders = lambda self, k: os.kill(os.getpid(), 9) if k == {} else orders(self, k)"
+DIES = (
+    "orders = module.Module.orders\nmodule.Module.orders = lambda self, k: os.kill(os.getpid(), "
+    "9) if k == {} else orders(self, k)"
+)
 ERRS = "sent = module.sent\nmodule.sent = lambda *told: sent(*(it + (it == 0) for it in told))"
 
 # A relay that hands on what comes back a tenth of a second late.
@@ -160,18 +205,24 @@ relay.main()
 # A host whose lines are read, and that reads.
 PAUSED = {"stdin": subprocess.PIPE, "stderr": subprocess.DEVNULL}
 
-# What joins link 0 of module 0 and link 3 of module 1. Behind that a switch isn't ready until SETTLE comes.
+# What joins link 0 of module 0 and link 3 of module 1.
+# Behind that a switch isn't ready until SETTLE comes.
 JOIN, SETTLE = b"\4\1\0\x11", b"\3"
-LOOSE = "switch.py: words come over {}, which isn't joined; have rack.py and host.py the same wiring and schedule?\n"
+LOOSE = (
+    "switch.py: words come over {}, which isn't joined; have rack.py and host.py the same wiring "
+    "and schedule?\n"
+)
 
 # A block of 256 words, as it comes over a link.
 PARTS = [b"a" * 600, b"b" * 424]
 
-# The rack whose cable is spoilt: the words of a run, how many bytes of the cable come after `driven`, and which bytes are the modules'.
+# The rack whose cable is spoilt: the words of a run, how many bytes of the cable come after
+# `driven`, and which bytes are the modules'.
 SPOILT = "2x1x1", read("swap.txt"), []
 TAIL = 8, 48
 
-# From which of the bytes that come back on there are none, counted from the end where it is negative, and what is awaited then.
+# From which of the bytes that come back on there are none, counted from the end where it is
+# negative, and what is awaited then.
 SILENT = {
     0: "-2 from the modules",
     4: "what module 0 has",
@@ -232,10 +283,13 @@ class Room:
                 os.mkfifo(self.at(f"{name}.{way}"))
 
     def write(self, shape, batch, schedule):
-        """Writes the files of a run, whose words are those of a rack and of a host. Words of an option are such."""
+        """Writes the files of a run, whose words are those of a rack and of a host.
+        Words of an option are such."""
         self.shape, self.options = shape, schedule
         Path(self.at("batch")).write_text(batch)
-        Path(self.at("image")).write_bytes(random.Random(self.what).randbytes(4 * math.prod(map(int, shape.split("x")))))
+        Path(self.at("image")).write_bytes(
+            random.Random(self.what).randbytes(4 * math.prod(map(int, shape.split("x"))))
+        )
         for name, wiring in WIRINGS.items():
             Path(self.at(name)).write_text(wiring)
         if isinstance(schedule, str):
@@ -243,7 +297,14 @@ class Room:
             self.options = ["--schedule", self.at("schedule")]
 
     def start(self, *words, **settings):
-        settings = {"env": self.env, "cwd": self.path, "stdout": subprocess.PIPE, "stderr": subprocess.STDOUT, "start_new_session": True, **settings}
+        settings = {
+            "env": self.env,
+            "cwd": self.path,
+            "stdout": subprocess.PIPE,
+            "stderr": subprocess.STDOUT,
+            "start_new_session": True,
+            **settings,
+        }
         run = subprocess.Popen([sys.executable, *words], **settings)
         self.started.append(run)
         started.append(run)
@@ -257,14 +318,21 @@ class Room:
         return self.start(HOST, cable, batch, *own, *options, **settings)
 
     def end(self, run):
-        """What a program says to its end, but for the numbers of a rack's processes, and what a host awaits on a busy machine. No failure is
-        told by Python."""
+        """What a program says to its end, but for the numbers of a rack's processes, and what a
+        host awaits on a busy machine. No failure is told by Python."""
         try:
             told = run.communicate(timeout=LIMIT)[0].decode()
         except subprocess.TimeoutExpired:
             told = "it hangs"
         expect(f"{self.what}: a traceback", "Traceback" not in told, told)
-        return re.sub(r"(?m)^(?:rack\.py: switch\.py \d+, |host\.py: nothing has come for 5 s; awaited is ).*\n", "", told)
+        return re.sub(
+            (
+                r"(?m)^(?:rack\.py: switch\.py \d+, |host\.py: nothing has come for 5 s; "
+                r"awaited is ).*\n"
+            ),
+            "",
+            told,
+        )
 
     def close(self):
         """Ends what still runs."""
@@ -273,35 +341,63 @@ class Room:
             run.wait()
 
     def ask(self, *words):
-        return subprocess.run([self.program, *words], stdout=subprocess.PIPE, cwd=self.path, check=True).stdout
+        return subprocess.run(
+            [self.program, *words], stdout=subprocess.PIPE, cwd=self.path, check=True
+        ).stdout
 
     def orders(self, *options):
-        return self.ask("orders", "batch", *(word for word in self.options if word not in ("--slot-0", "--in-turn")), *options).decode()
+        return self.ask(
+            "orders",
+            "batch",
+            *(word for word in self.options if word not in ("--slot-0", "--in-turn")),
+            *options,
+        ).decode()
 
     def is_left(self):
         """Whether the image that a host left is that of the program."""
         left = Path(self.at("left"))
-        return left.exists() and left.read_bytes() == self.ask("apply", self.shape, "batch", "image")
+        return left.exists() and left.read_bytes() == self.ask(
+            "apply", self.shape, "batch", "image"
+        )
 
     def programs(self, changes, tables=None):
-        """Writes a program for each module, and gives the option that has a rack take them. The tables are those of the modules' own numbers,
-        or of others."""
+        """Writes a program for each module, and gives the option that has a rack take them. The
+        tables are those of the modules' own numbers, or of others."""
         os.makedirs(self.at("modules"))
         Path(self.at("plan")).write_bytes(self.ask("plan", "batch"))
         for m in range(int(self.shape.split("x")[0])):
-            words = {"shape": self.shape, "batch": self.at("batch"), "schedule": self.at("schedule" if "--schedule" in self.options else "plan")}
-            words.update({"m": (tables or {}).get(m, m), "change": changes.get(m, ""), "python": sys.executable, "examples": EXAMPLES})
+            words = {
+                "shape": self.shape,
+                "batch": self.at("batch"),
+                "schedule": self.at("schedule" if "--schedule" in self.options else "plan"),
+            }
+            words.update(
+                {
+                    "m": (tables or {}).get(m, m),
+                    "change": changes.get(m, ""),
+                    "python": sys.executable,
+                    "examples": EXAMPLES,
+                }
+            )
             Path(self.at(f"modules/{m}")).write_text(PROGRAM.format(**words))
             os.chmod(self.at(f"modules/{m}"), 0o755)
         return "--modules", "modules"
 
 
 class Between:
-    """A cable that is spoilt at a place: it loses a byte there, has one too many, has another one, or is silent from there on. It leads from
-    the host's pipes to those of a rack, which has begun."""
+    """A cable that is spoilt at a place: it loses a byte there, has one too many, has another one,
+    or is silent from there on. It leads from the host's pipes to those of a rack, which has
+    begun."""
 
     def __init__(self, room, kind="", way=0, place=None, byte=0):
-        self.room, self.kind, self.way, self.place, self.byte, self.counts = room, kind, way, place, bytes([byte]), [0, 0]
+        self.room, self.kind, self.way, self.place, self.byte, self.counts = (
+            room,
+            kind,
+            way,
+            place,
+            bytes([byte]),
+            [0, 0],
+        )
         room.pipes("cable", "inner")
         self.rack = room.rack("--cable", "inner")
         # Once -2 comes back all of them are there.
@@ -327,14 +423,24 @@ class Between:
         with contextlib.suppress(OSError):
             while True:
                 # What comes back once a host has gone waits for the next one.
-                far = os.open(self.room.at(("cable.in", "cable.out")[way]), (os.O_RDONLY, os.O_RDWR)[way])
+                far = os.open(
+                    self.room.at(("cable.in", "cable.out")[way]), (os.O_RDONLY, os.O_RDWR)[way]
+                )
                 source, target = ((far, self.ends[0]), (self.ends[1], far))[way]
                 while came := os.read(source, 1):
                     is_here = way == self.way and self.counts[way] == self.place
-                    is_past = way == self.way and self.place is not None and self.counts[way] >= self.place
+                    is_past = (
+                        way == self.way
+                        and self.place is not None
+                        and self.counts[way] >= self.place
+                    )
                     self.counts[way] += 1
                     if is_here and self.kind != "silent":
-                        came = {"lost": b"", "more": self.byte + came, "other": bytes([came[0] ^ 0x80])}[self.kind]
+                        came = {
+                            "lost": b"",
+                            "more": self.byte + came,
+                            "other": bytes([came[0] ^ 0x80]),
+                        }[self.kind]
                     if not (is_past and self.kind == "silent"):
                         os.write(target, came)
                 os.close(far)
@@ -365,11 +471,14 @@ def hangs(room, *case):
     room.write(*case, ["--in-turn"])
     run = room.rack(stderr=subprocess.DEVNULL)
     told = run.stdout.readline()
-    room.expect(told.startswith(b"setting 0 ") and not select.select([run.stdout], [], [], SILENCE)[0], told)
+    room.expect(
+        told.startswith(b"setting 0 ") and not select.select([run.stdout], [], [], SILENCE)[0], told
+    )
 
 
 def refuses(room, line, front, *case, options=()):
-    """Notes whether the rack isn't started, and says this, and in a second line, which begins so, which file it is about; {} is the folder."""
+    """Notes whether the rack isn't started, and says this, and in a second line, which begins so,
+    which file it is about; {} is the folder."""
     room.write(*case)
     run = room.rack(*options)
     told = room.end(run)
@@ -377,7 +486,8 @@ def refuses(room, line, front, *case, options=()):
 
 
 def goes(room, order, is_well, *case):
-    """Notes whether a rack that does settings in an order, each by a `drive` of its own, leaves what `apply` does."""
+    """Notes whether a rack that does settings in an order, each by a `drive` of its own,
+    leaves what `apply` does."""
     room.write(*case)
     room.pipes("cable")
     run = room.rack("--cable", "cable")
@@ -388,12 +498,16 @@ def goes(room, order, is_well, *case):
     cable.fill(shape, Path(room.at("image")).read_bytes())
     for setting in order(range(count)):
         cable.find_modules()
-        drive = host.Drive(cable, room.path, [host.SWITCH], room.at("batch"), *room.options, "--from", str(setting))
+        drive = host.Drive(
+            cable, room.path, [host.SWITCH], room.at("batch"), *room.options, "--from", str(setting)
+        )
         lines = drive.lines()
         cable.move(int(next(lines).split()[1]))
         drive.process.stdin.close()
         ended = list(lines)
-        expect(f"{room.what}: setting {setting} is left", ended == [f"left setting {setting}"], ended)
+        expect(
+            f"{room.what}: setting {setting} is left", ended == [f"left setting {setting}"], ended
+        )
         drive.process.wait()
     Path(room.at("left")).write_bytes(cable.read(shape))
     cable.end_modules()
@@ -403,71 +517,135 @@ def goes(room, order, is_well, *case):
 
 
 def compile_all(room, sources, *words):
-    subprocess.run(["cc", *FLAGS, *words, f"-I{room.path}", f"-I{INMOS}", *sources, f"{INMOS}/rack.c", "-lpthread"], check=True)
+    subprocess.run(
+        [
+            "cc",
+            *FLAGS,
+            *words,
+            f"-I{room.path}",
+            f"-I{INMOS}",
+            *sources,
+            f"{INMOS}/rack.c",
+            "-lpthread",
+        ],
+        check=True,
+    )
 
 
 def is_moved_in_c(room, *case, by_tables=False, first=0):
-    """Notes whether a rack of modules in C leaves what the program says, and one whose relay in C sets the switch itself, from a setting on."""
+    """Notes whether a rack of modules in C leaves what the program says, and one whose relay in C
+    sets the switch itself, from a setting on."""
     room.write(*case)
     count, blocks, size = map(int, case[0].split("x"))
     os.makedirs(room.at("modules"))
     for m in range(count):
-        Path(room.at("tables.h")).write_text(tables_of("orders_to_c", room.orders("--module", str(m))))
-        compile_all(room, [f"{EXAMPLES}/board/module.c"], f"-DBLOCKS={blocks}", f"-DBLOCK_BYTES={4 * size}", "-o", room.at(f"modules/{m}"))
+        Path(room.at("tables.h")).write_text(
+            tables_of("orders_to_c", room.orders("--module", str(m)))
+        )
+        compile_all(
+            room,
+            [f"{EXAMPLES}/board/module.c"],
+            f"-DBLOCKS={blocks}",
+            f"-DBLOCK_BYTES={4 * size}",
+            "-o",
+            room.at(f"modules/{m}"),
+        )
     if not by_tables:
         return is_moved(room, *case, options=["--modules", "modules"])
     relay_in_c(room)
-    run = room.rack("--modules", "modules", "--relay", "relay", "--tables", "--from", str(first), "--image", "image", "--image-out", "left")
+    run = room.rack(
+        "--modules",
+        "modules",
+        "--relay",
+        "relay",
+        "--tables",
+        "--from",
+        str(first),
+        "--image",
+        "image",
+        "--image-out",
+        "left",
+    )
     told, moved = room.end(run), int(room.orders().split()[3])
-    wanted = "".join(f"moved setting {k}\n" for k in range(first, moved)) + f"moved settings {moved}\n"
+    wanted = (
+        "".join(f"moved setting {k}\n" for k in range(first, moved)) + f"moved settings {moved}\n"
+    )
     room.expect(run.returncode == 0 and told == wanted and room.is_left(), told)
-    # The tables of another wiring are seen. The next host fills the modules once more, and its relay ends a command that was begun.
+    # The tables of another wiring are seen. The next host fills the modules once more, and its
+    # relay ends a command that was begun.
     room.pipes("cable")
     run = room.rack("--modules", "modules", "--relay", "relay", "--cable", "cable")
     Path(room.at("zeros")).write_bytes(bytes(os.path.getsize(room.at("image"))))
     other = room.host("--tables", "--wiring", "turned", "--image", "zeros")
     told = room.end(other)
-    is_seen = re.fullmatch(r"host.py: \d+ came back, and awaited was the sum of the switch's tables, .*\n", told)
+    is_seen = re.fullmatch(
+        r"host.py: \d+ came back, and awaited was the sum of the switch's tables, .*\n", told
+    )
     expect(f"{room.what}: a switch's other tables", other.returncode == 1 and is_seen, told)
     next(Path(room.path).glob("rack-*/board.in")).write_bytes(b"\0")
     os.remove(room.at("left"))
-    told = room.end(room.host("--tables", "--from", str(first), "--image", "image", "--image-out", "left")), room.end(run)
+    told = (
+        room.end(
+            room.host("--tables", "--from", str(first), "--image", "image", "--image-out", "left")
+        ),
+        room.end(run),
+    )
     expect(f"{room.what}: the next host", told == (wanted, "") and room.is_left(), told)
 
 
 def relay_in_c(room):
     """Compiles the relay by the tables of the room's batch."""
-    Path(room.at("switch.h")).write_text(tables_of("switch_to_c", room.ask("switch", "batch", *room.options).decode()))
+    Path(room.at("switch.h")).write_text(
+        tables_of("switch_to_c", room.ask("switch", "batch", *room.options).decode())
+    )
     compile_all(room, [f"{EXAMPLES}/board/relay.c"], "-DRELAY", "-o", room.at("relay"))
 
 
 def ends_by_tables(room, *case):
-    """Notes whether a board that sets its switch itself ends where a module gives another number back, and its host too."""
+    """Notes whether a board that sets its switch itself ends
+    where a module gives another number back, and its host too."""
     room.write(*case)
     relay_in_c(room)
     run = room.rack(*room.programs({0: ERRS}), "--relay", "relay", "--tables")
-    said = "host.py: 1 came back, and awaited was 0 from the relay, once setting 0 is moved\nrack.py: relay.py has ended with status 1\n"
+    said = (
+        "host.py: 1 came back, and awaited was 0 from the relay, once setting 0 is moved\n"
+        "rack.py: relay.py has ended with status 1\n"
+    )
     room.expect((told := room.end(run)) == said and run.returncode == 1, told)
 
 
 def are_told_again(room, path, words, modules):
-    """Notes whether the tables of each module are made into its orders again, and those of the switch into its bytes."""
+    """Notes whether the tables of each module are made into its orders again,
+    and those of the switch into its bytes."""
     room.write("1x1x1", path.read_text(), words)
     for m in range(modules):
         told = room.orders("--module", str(m))
         for language in "occam", "c":
             text = tables_of(f"orders_to_{language}", told)
-            expect(f"{language} of module {m}, {path} {words}", tables.orders(language, text) == told, text)
+            expect(
+                f"{language} of module {m}, {path} {words}",
+                tables.orders(language, text) == told,
+                text,
+            )
     if modules <= 16:
         told = room.ask("switch", "batch", *words).decode()
         for language in "occam", "c":
             text = tables_of(f"switch_to_{language}", told)
-            expect(f"{language} of the switch, {path} {words}", tables.switch(language, text) == told, text)
+            expect(
+                f"{language} of the switch, {path} {words}",
+                tables.switch(language, text) == told,
+                text,
+            )
 
 
 def tables_of(name, told):
     """The tables that are made of what the program prints."""
-    return subprocess.run([sys.executable, f"{EXAMPLES}/{name}.py"], input=told.encode(), stdout=subprocess.PIPE, check=True).stdout.decode()
+    return subprocess.run(
+        [sys.executable, f"{EXAMPLES}/{name}.py"],
+        input=told.encode(),
+        stdout=subprocess.PIPE,
+        check=True,
+    ).stdout.decode()
 
 
 def start_alone(room, name, *words, links):
@@ -480,8 +658,8 @@ def start_alone(room, name, *words, links):
 
 
 def carries(room, sent, near_link, carried, said):
-    """Notes what comes of words of a link at a switch that is sent these bytes: what goes on to link 3 of module 1, and what the switch tells at
-    its end."""
+    """Notes what comes of words of a link at a switch that is sent these bytes: what goes on to
+    link 3 of module 1, and what the switch tells at its end."""
     near, far = zip(*(socket.socketpair() for _ in range(4)))
     room.pipes("port")
     run = start_alone(room, "switch", "port", links=near)
@@ -496,8 +674,8 @@ def carries(room, sent, near_link, carried, said):
 
 
 def receives(room, parts, *wanted):
-    """Notes what a module does that is told to receive a block, which comes in these parts: what it says before the last one, its
-    acknowledge, the block that it gives back, and how it ends."""
+    """Notes what a module does that is told to receive a block, which comes in these parts: what it
+    says before the last one, its acknowledge, the block that it gives back, and how it ends."""
     near, far = zip(*(socket.socketpair() for _ in range(3)))
     room.write("2x1x256", "batch 1\npush 0 0 1 0\n", "settings 1\nsetting 0\n")
     run = start_alone(room, "module", "1", "2x1x256", "batch", "schedule", links=near)
@@ -511,7 +689,8 @@ def receives(room, parts, *wanted):
 
 
 def send(link, parts, others):
-    """Sends parts over a link, one once the one before has been seen, if the other end is there: what of these can be read before the last."""
+    """Sends parts over a link, one once the one before has been seen, if the other end is there:
+    what of these can be read before the last."""
     ready = []
     # The other end may be gone.
     with contextlib.suppress(BrokenPipeError, ConnectionResetError):
@@ -522,11 +701,16 @@ def send(link, parts, others):
 
 
 def hear(link, count):
-    """So many bytes that come over a link, or those that come before it ends or says nothing more."""
+    """So many bytes that come over a link, or those that come before it ends
+    or says nothing more."""
     taken = b""
     # The other end may be gone, and have left bytes.
     with contextlib.suppress(ConnectionResetError):
-        while len(taken) < count and select.select([link], [], [], 5 * SILENCE)[0] and (part := link.recv(count - len(taken))):
+        while (
+            len(taken) < count
+            and select.select([link], [], [], 5 * SILENCE)[0]
+            and (part := link.recv(count - len(taken)))
+        ):
             taken += part
     return taken
 
@@ -534,10 +718,20 @@ def hear(link, count):
 def is_relayed(room):
     """Notes whether the relay's two loops carry the bytes between `drive` and `c004`."""
     room.pipes("port", "config")
-    runs = [room.start(RELAY, "port", "config"), room.start("-c", "import os, sys; os.execv(sys.argv[1], ['exchange', 'c004'])", room.program,
-            stdin=os.open(room.at("config.in"), os.O_RDWR), stdout=os.open(room.at("config.out"), os.O_RDWR))]
+    runs = [
+        room.start(RELAY, "port", "config"),
+        room.start(
+            "-c",
+            "import os, sys; os.execv(sys.argv[1], ['exchange', 'c004'])",
+            room.program,
+            stdin=os.open(room.at("config.in"), os.O_RDWR),
+            stdout=os.open(room.at("config.out"), os.O_RDWR),
+        ),
+    ]
     told = room.ask("drive", f"{EXAMPLES}/three-transfers.txt", "port", "--go-on")
-    room.expect(told == b"setting 0 0 2\nsetting 1 1\ndriven settings 2\n" and runs[0].wait() == 0, told)
+    room.expect(
+        told == b"setting 0 0 2\nsetting 1 1\ndriven settings 2\n" and runs[0].wait() == 0, told
+    )
 
 
 def relay_ends(room, sent, status, said):
@@ -546,7 +740,10 @@ def relay_ends(room, sent, status, said):
     near, far = socket.socketpair()
     far.close()
     run = room.start(RELAY, "cable", "config", str(near.fileno()), pass_fds=[near.fileno()])
-    held = [os.open(room.at(name), os.O_RDWR) for name in ("cable.in", "cable.out", "config.in", "config.out")]
+    held = [
+        os.open(room.at(name), os.O_RDWR)
+        for name in ("cable.in", "cable.out", "config.in", "config.out")
+    ]
     os.write(held[0], sent)
     told = room.end(run)
     room.expect((run.returncode, told) == (status, said), told)
@@ -559,7 +756,10 @@ def is_moved_over_a_pty(room, *case):
     run = room.rack("--cable", "cable")
     far, near = os.openpty()
     tty.setraw(near)
-    there, back = os.open(room.at("cable.in"), os.O_WRONLY), os.open(room.at("cable.out"), os.O_RDONLY)
+    there, back = (
+        os.open(room.at("cable.in"), os.O_WRONLY),
+        os.open(room.at("cable.out"), os.O_RDONLY),
+    )
     for ends in (far, there), (back, far):
         threading.Thread(target=relay.carry, args=ends, daemon=True).start()
     driven = room.host("--image", "image", "--image-out", "left", cable=os.ttyname(near))
@@ -567,11 +767,14 @@ def is_moved_over_a_pty(room, *case):
     # The terminal that it is sent signals by.
     own = Path(f"/proc/{driven.pid}/stat").read_text().rpartition(")")[2].split()[4]
     told = room.end(driven), room.end(run), own
-    room.expect(driven.returncode == run.returncode == 0 and told[1:] == ("", "0") and room.is_left(), told)
+    room.expect(
+        driven.returncode == run.returncode == 0 and told[1:] == ("", "0") and room.is_left(), told
+    )
 
 
 def ends(room, switches, *words):
-    """Notes whether the host, at so many switches, ends where its cable does before one has answered, and drops what was there."""
+    """Notes whether the host, at so many switches, ends where its cable does before one has
+    answered, and drops what was there."""
     room.write("1x1x1", "batch 1\npush 0 0 0 0\n", [])
     room.pipes("cable")
     held = os.open(room.at("cable.out"), os.O_RDWR)
@@ -582,7 +785,10 @@ def ends(room, switches, *words):
     for reply in b"\xfe\xff", b"\xfd\xff":
         told = take(there, 4)
         expect(f"{room.what}: {reply}", told == bytes([1, reply[0], 1, reply[1]]), told)
-        orders = b"".join(it.to_bytes(2, "little", signed=True) for it in [host.orders_sum([], [[(0, "send block", 0), (3, "receive block", 0)]]), 1, 1])
+        orders = b"".join(
+            it.to_bytes(2, "little", signed=True)
+            for it in [host.orders_sum([], [[(0, "send block", 0), (3, "receive block", 0)]]), 1, 1]
+        )
         told = (orders if reply[0] == 0xFD else b"") + reply
         os.write(held, b"".join(bytes([1, byte]) for byte in told))
     take(there, 2)
@@ -590,7 +796,9 @@ def ends(room, switches, *words):
     os.close(held)
     os.close(there)
     told = room.end(run)
-    is_well = "stopped setting 0 port" in told and told.endswith("host.py: the cable has ended, and awaited was an answer of the switch to drive\n")
+    is_well = "stopped setting 0 port" in told and told.endswith(
+        "host.py: the cable has ended, and awaited was an answer of the switch to drive\n"
+    )
     room.expect(is_well and run.returncode == 1, told)
 
 
@@ -607,32 +815,56 @@ def is_cut(room):
 
 
 def finds_the_program(room):
-    """Notes whether a rack finds the program in the folder that it is started in, where nothing else says where it is."""
+    """Notes whether a rack finds the program in the folder that it is started in,
+    where nothing else says where it is."""
     os.symlink(room.program, room.at("exchange"))
-    room.env = {**{name: text for name, text in room.env.items() if name != "EXCHANGE"}, "PATH": os.defpath}
+    room.env = {
+        **{name: text for name, text in room.env.items() if name != "EXCHANGE"},
+        "PATH": os.defpath,
+    }
     is_moved(room, *CASES[0][1:])
 
 
 def is_ended(room, by):
-    """Notes whether a rack, and a host, that a signal ends leave no folder and no process. The rack itself has no end of a link."""
+    """Notes whether a rack, and a host, that a signal ends leave no folder and no process. The rack
+    itself has no end of a link."""
     room.write(*CASES[0][1:])
     room.pipes("cable")
-    run, paused = room.rack("--cable", "cable", stderr=subprocess.PIPE), room.host("--pause", **PAUSED)
+    run, paused = (
+        room.rack("--cable", "cable", stderr=subprocess.PIPE),
+        room.host("--pause", **PAUSED),
+    )
     numbers = re.findall(r" (\d+)[,\n]", run.stderr.readline().decode())
     told, made = paused.stdout.readline(), folders(room)
     numbers += Path(f"/proc/{paused.pid}/task/{paused.pid}/children").read_text().split()
-    links = [it for it in Path(f"/proc/{run.pid}/fd").iterdir() if int(it.name) > 2 and os.readlink(it).startswith("socket:")]
+    links = [
+        it
+        for it in Path(f"/proc/{run.pid}/fd").iterdir()
+        if int(it.name) > 2 and os.readlink(it).startswith("socket:")
+    ]
     for it in run, paused:
         it.send_signal(by)
     texts = [it.communicate(timeout=LIMIT)[0] for it in (run, paused)]
-    # This one takes over the processes whose own are gone, and waits for none of these. So what wasn't waited for is still there.
+    # This one takes over the processes whose own are gone, and waits for none of these. So what
+    # wasn't waited for is still there.
     left = [number for number in numbers if os.path.exists(f"/proc/{number}")]
-    found = told, len(made), folders(room), [run.returncode, paused.returncode], len(numbers), links, left
-    room.expect(found == (b"setting 0 0 2\n", 2, set(), [128 + by] * 2, 6, [], []), f"{found} {texts}")
+    found = (
+        told,
+        len(made),
+        folders(room),
+        [run.returncode, paused.returncode],
+        len(numbers),
+        links,
+        left,
+    )
+    room.expect(
+        found == (b"setting 0 0 2\n", 2, set(), [128 + by] * 2, 6, [], []), f"{found} {texts}"
+    )
 
 
 def hears_all(room):
-    """Notes whether a rack ends no sooner than its host has heard what the modules say last, whose relay is late."""
+    """Notes whether a rack ends no sooner than its host has heard what the modules say last,
+    whose relay is late."""
     room.write(*CASES[0][1:])
     room.pipes("cable")
     Path(room.at("relay")).write_text(LATE)
@@ -649,35 +881,50 @@ def folders(room):
 
 
 def goes_on(room):
-    """Notes whether a rack goes on whose host was killed in its pause before setting 1, and one follows that begins there. While it was there no
-    other had the cable."""
+    """Notes whether a rack goes on whose host was killed in its pause before setting 1, and one
+    follows that begins there. While it was there no other had the cable."""
     room.write(*CASES[0][1:])
     room.pipes("cable")
     run, paused = room.rack("--cable", "cable"), room.host("--pause", "--image", "image", **PAUSED)
     told = [paused.stdout.readline()]
     is_silent = not select.select([paused.stdout], [], [], SILENCE)[0]
     second = room.host()
-    expect("a second host", (room.end(second), second.returncode) == ("host.py: another host has cable\n", 1))
+    expect(
+        "a second host",
+        (room.end(second), second.returncode) == ("host.py: another host has cable\n", 1),
+    )
     paused.stdin.write(b"\n")
     paused.stdin.flush()
     told.append(paused.stdout.readline())
     paused.kill()
     paused.wait()
     told += [room.end(it) for it in (room.host("--from", "1", "--image-out", "left"), run)]
-    room.expect(is_silent and told == [b"setting 0 0 2\n", b"setting 1 1\n", "setting 1 1\ndriven settings 2\n", ""] and room.is_left(), told)
+    room.expect(
+        is_silent
+        and told == [b"setting 0 0 2\n", b"setting 1 1\n", "setting 1 1\ndriven settings 2\n", ""]
+        and room.is_left(),
+        told,
+    )
 
 
 def pauses(room):
-    """Notes whether modules hear of a setting once the return key is hit, and not before: the first of them dies by that."""
+    """Notes whether modules hear of a setting once the return key is hit, and not before:
+    the first of them dies by that."""
     room.write(*CASES[0][1:])
     room.pipes("cable")
-    run, paused = room.rack("--cable", "cable", *room.programs({0: DIES.format(0)})), room.host("--pause", **PAUSED)
+    run, paused = (
+        room.rack("--cable", "cable", *room.programs({0: DIES.format(0)})),
+        room.host("--pause", **PAUSED),
+    )
     told = paused.stdout.readline()
     time.sleep(SILENCE)
     is_there = run.poll() is None
     paused.stdin.write(b"\n")
     paused.stdin.flush()
-    room.expect(told and is_there and room.end(run).endswith("rack.py: module 0 was killed by SIGKILL\n"), told)
+    room.expect(
+        told and is_there and room.end(run).endswith("rack.py: module 0 was killed by SIGKILL\n"),
+        told,
+    )
 
 
 def waits(room):
@@ -690,7 +937,28 @@ def waits(room):
     rack = room.rack("--cable", "cable")
     room.expect(is_said_once, "it says so again")
     found = told, room.end(run), room.end(rack), run.returncode
-    room.expect(found == (b"host.py: nothing has come for 5 s; awaited is a relay that reads cable.in\n", "setting 0 0 2\nsetting 1 1\ndriven settings 2\n", "", 0), found)
+    room.expect(
+        found
+        == (
+            b"host.py: nothing has come for 5 s; awaited is a relay that reads cable.in\n",
+            "setting 0 0 2\nsetting 1 1\ndriven settings 2\n",
+            "",
+            0,
+        ),
+        found,
+    )
+
+
+def ends_modules(room):
+    """Notes whether the modules end where a host can't write the words that they have in the end."""
+    room.write(*CASES[0][1:])
+    room.pipes("cable")
+    run, host_run = room.rack("--cable", "cable"), room.host("--image-out", "/dev/full")
+    told = room.end(host_run), host_run.returncode, room.end(run), run.returncode
+    driven = "setting 0 0 2\nsetting 1 1\ndriven settings 2\n"
+    room.expect(
+        told == (f"{driven}host.py: [Errno 28] No space left on device\n", 1, "", 0), told
+    )
 
 
 def host_says(room, said, cable, *words):
@@ -713,7 +981,8 @@ def is_flooded(room):
 
 
 def hears(room, said, replies, *words):
-    """Notes whether a host ends that hears these of a board, each once so many bytes have come, after a byte of a switch, and says this."""
+    """Notes whether a host ends that hears these of a board, each once so many bytes have come,
+    after a byte of a switch, and says this."""
     room.write("1x1x1", "batch 1\npush 0 0 0 0\n", [])
     room.pipes("cable")
     held = os.open(room.at("cable.out"), os.O_RDWR)
@@ -723,7 +992,9 @@ def hears(room, said, replies, *words):
     def reply():
         for count, numbers in replies:
             take(there, count)
-            os.write(held, b"".join(bytes([host.SWITCH_B, 0, host.MODULES, byte]) for byte in numbers))
+            os.write(
+                held, b"".join(bytes([host.SWITCH_B, 0, host.MODULES, byte]) for byte in numbers)
+            )
 
     threading.Thread(target=reply, daemon=True).start()
     told = room.end(run)
@@ -731,14 +1002,24 @@ def hears(room, said, replies, *words):
 
 
 def says(room, status, said, *words):
-    """Notes whether a program ends with a status, and says this at the end of standard error, and nothing on standard output."""
+    """Notes whether a program ends with a status, and says this at the end of standard error, and
+    nothing on standard output."""
     room.write("2x1x1", read("swap.txt"), [])
-    run = subprocess.run(words, stdin=subprocess.DEVNULL, capture_output=True, text=True, cwd=room.path, env=room.env, check=False)
+    run = subprocess.run(
+        words,
+        stdin=subprocess.DEVNULL,
+        capture_output=True,
+        text=True,
+        cwd=room.path,
+        env=room.env,
+        check=False,
+    )
     room.expect(run.returncode == status and run.stderr.endswith(said) and run.stdout == "", run)
 
 
 def compares(room, said, case, changes, tables=None, options=None, batch=None):
-    """Notes whether a host of another batch, or at modules of other programs, says how these differ, before a switch is set."""
+    """Notes whether a host of another batch, or at modules of other programs, says how these
+    differ, before a switch is set."""
     room.write(*case)
     room.pipes("cable")
     rack = room.rack("--cable", "cable", *room.programs(changes, tables))
@@ -747,31 +1028,45 @@ def compares(room, said, case, changes, tables=None, options=None, batch=None):
     Path(room.at("file")).write_text("")
     run = room.host("--patience", str(LIMIT), batch="other")
     told = room.end(run)
-    room.expect(run.returncode == 1 and told.endswith(said) and "driven" not in told, f"{told}\n{rack.poll()}")
+    room.expect(
+        run.returncode == 1 and told.endswith(said) and "driven" not in told,
+        f"{told}\n{rack.poll()}",
+    )
 
 
 def says_what_differs(room):
-    """Notes whether a rack says which link isn't joined, where its host has another wiring, and ends, and the host too."""
+    """Notes whether a rack says which link isn't joined, where its host has another wiring,
+    and ends, and the host too."""
     room.write("3x2x2", read("three-transfers.txt"), ["--wiring", "wiring"])
     room.pipes("cable")
     run = room.rack("--cable", "cable")
     room.options = []
     driven = room.host()
     told = room.end(run), room.end(driven)
-    is_well = "switch.py: words come over link 0 of module " in told[0] and told[0].endswith("rack.py: switch.py has ended with status 1\n")
-    is_host_well = told[1].endswith("host.py: the cable has ended, and awaited was 0 from the modules, which have to do setting 0\n")
+    is_well = "switch.py: words come over link 0 of module " in told[0] and told[0].endswith(
+        "rack.py: switch.py has ended with status 1\n"
+    )
+    is_host_well = told[1].endswith(
+        "host.py: the cable has ended, and awaited was 0 from the modules, which have to do "
+        "setting 0\n"
+    )
     room.expect(is_well and is_host_well and run.returncode == driven.returncode == 1, told)
 
 
 def says_who_is_killed(room, m, setting, *options):
-    """Notes whether a rack one of whose modules is killed in a setting says so, and ends, and its host too."""
+    """Notes whether a rack one of whose modules is killed in a setting says so, and ends,
+    and its host too."""
     room.write("3x2x2", read("three-transfers.txt"), APART)
     room.pipes("cable")
     run = room.rack(*room.programs({m: DIES.format(setting)}), *options)
     runs = [run, room.host()] if options else [run]
     told = [room.end(it) for it in runs]
-    is_well = told[0].endswith(f"rack.py: module {m} was killed by SIGKILL\n") and all(it.returncode == 1 for it in runs)
-    room.expect(is_well and "driven" not in "".join(told) and f"setting {setting} " in told[-1], told)
+    is_well = told[0].endswith(f"rack.py: module {m} was killed by SIGKILL\n") and all(
+        it.returncode == 1 for it in runs
+    )
+    room.expect(
+        is_well and "driven" not in "".join(told) and f"setting {setting} " in told[-1], told
+    )
 
 
 def ends_its_host(room):
@@ -790,15 +1085,20 @@ def is_spoilt(room, kind, way, place, byte, said=r"(?m)^host\.py: |^stopped sett
     Between(room, kind, way, place, byte)
     run = room.host("--patience", str(PATIENCE), "--image", "image", "--image-out", "left")
     told = room.end(run)
-    room.expect(run.returncode in (1, host.SILENT) and "driven" not in told and re.search(said, told), told)
+    room.expect(
+        run.returncode in (1, host.SILENT) and "driven" not in told and re.search(said, told), told
+    )
 
 
 def falls_silent(room, way, place, awaited):
-    """Notes whether a host says what is awaited of a cable that falls silent. On a busy machine it may be something before: then it is tried
-    once more, with more patience."""
+    """Notes whether a host says what is awaited of a cable that falls silent. On a busy machine it
+    may be something before: then it is tried once more, with more patience."""
     told = ""
     for patience in PATIENCE, 8 * PATIENCE:
-        with tempfile.TemporaryDirectory(dir=room.path) as path, contextlib.closing(Room(room.installed, path, room.what)) as inner:
+        with (
+            tempfile.TemporaryDirectory(dir=room.path) as path,
+            contextlib.closing(Room(room.installed, path, room.what)) as inner,
+        ):
             inner.write(*SPOILT)
             Between(inner, "silent", way, place)
             left = Path(inner.at("left"))
@@ -807,14 +1107,22 @@ def falls_silent(room, way, place, awaited):
             told = inner.end(run)
             is_whole = left.read_bytes() == b"old" or inner.is_left()
             # Modules that have ended end the cable.
-            for status, why in (host.SILENT, f"nothing has come for {patience} s;"), (1, "the cable has ended, and"):
-                if run.returncode == status and f"host.py: {why} awaited was {awaited}" in told and is_whole:
+            for status, why in (
+                (host.SILENT, f"nothing has come for {patience} s;"),
+                (1, "the cable has ended, and"),
+            ):
+                if (
+                    run.returncode == status
+                    and f"host.py: {why} awaited was {awaited}" in told
+                    and is_whole
+                ):
                     return
     room.expect(False, told)
 
 
 def comes_again(room, place):
-    """Notes whether modules wait on for the next host where a switch answers something else at a place, so that `drive` stops."""
+    """Notes whether modules wait on for the next host where a switch answers something else at a
+    place, so that `drive` stops."""
     room.write(*SPOILT)
     Between(room, "other", 1, place)
     Path(room.at("zeros")).write_bytes(bytes(8))
@@ -822,7 +1130,13 @@ def comes_again(room, place):
     told = room.end(first)
     is_told = "stopped setting 0 " in told and "driven" not in told
     second = room.host("--image", "image", "--image-out", "left")
-    room.expect(is_told and first.returncode == 1 and room.end(second).endswith("driven settings 1\n") and room.is_left(), told)
+    room.expect(
+        is_told
+        and first.returncode == 1
+        and room.end(second).endswith("driven settings 1\n")
+        and room.is_left(),
+        told,
+    )
 
 
 def random_case(draw):
@@ -838,25 +1152,43 @@ def random_case(draw):
 
 
 def patterns():
-    """The patterns' batches and the one of all to all, each with its shape and the words by which it goes."""
-    for path in [Path(f"{EXAMPLES}/all-to-all.txt"), *sorted(Path(f"{EXAMPLES}/patterns").glob("*.txt"))]:
+    """The patterns' batches and the one of all to all,
+    each with its shape and the words by which it goes."""
+    for path in [
+        Path(f"{EXAMPLES}/all-to-all.txt"),
+        *sorted(Path(f"{EXAMPLES}/patterns").glob("*.txt")),
+    ]:
         batch = path.read_text()
         if batch.startswith("batch "):
             numbers = [[int(word) for word in line.split()[1:]] for line in batch.splitlines()[1:]]
             modules = 1 + max(max(it[0], it[2]) for it in numbers)
             blocks = 1 + max(max(it[1], it[3]) for it in numbers)
-            yield path, f"{modules}x{blocks}x2", batch, ["--steady"] if "three-blocks" in path.name else []
+            yield (
+                path,
+                f"{modules}x{blocks}x2",
+                batch,
+                ["--steady"] if "three-blocks" in path.name else [],
+            )
 
 
 def boards():
     """Repeats, modules in C, and tables."""
     for path, shape, batch, options in patterns():
-        yield goes, f"twice: {path.name}", lambda settings: [k for k in settings for _ in range(2)], True, shape, batch, options
+        yield (
+            goes,
+            f"twice: {path.name}",
+            lambda settings: [k for k in settings for _ in range(2)],
+            True,
+            shape,
+            batch,
+            options,
+        )
         yield are_told_again, f"tables: {path.name}", path, options, int(shape.split("x")[0])
     yield are_told_again, "tables of a ring", Path(f"{EXAMPLES}/ring.txt"), [], 4
     Path("none").write_text("batch 0\n")
     yield are_told_again, "tables of nothing", Path("none").absolute(), [], 1
-    # Module 1 sends its block on in setting 0, and receives another one in setting 1: to go back to setting 0 sends that.
+    # Module 1 sends its block on in setting 0, and receives another one in setting 1:
+    # to go back to setting 0 sends that.
     back = "2x2x1", "batch 2\npush 1 0 0 0\npush 0 1 1 0\n", "settings 2\nsetting 0\nsetting 1\n"
     yield goes, "forth", lambda settings: settings, True, *back
     yield goes, "forth and back", lambda settings: [*settings, 0, 1], False, *back
@@ -865,9 +1197,22 @@ def boards():
         yield is_moved_in_c, f"in C: {what}", *case
     for what, *case in IN_C[:-1]:
         yield by_tables, f"in C, by the board's own tables: {what}", 0, *case
-    yield ends_by_tables, "in C, by the board's own tables: another number", "1x2x1", "batch 1\npush 0 0 0 1\n", []
+    yield (
+        ends_by_tables,
+        "in C, by the board's own tables: another number",
+        "1x2x1",
+        "batch 1\npush 0 0 0 1\n",
+        [],
+    )
     # Setting 0 moves nothing. Setting 1 needs what it joined.
-    yield by_tables, "in C, by the board's own tables, from setting 1 on", 1, "1x3x1", "batch 2\npush 0 0 0 0\npush 0 1 0 2\n", []
+    yield (
+        by_tables,
+        "in C, by the board's own tables, from setting 1 on",
+        1,
+        "1x3x1",
+        "batch 2\npush 0 0 0 0\npush 0 1 0 2\n",
+        [],
+    )
 
 
 def by_tables(room, first, *case):
@@ -879,48 +1224,169 @@ def faults(totals):
     draw = random.Random("faults")
     for kind, way in itertools.product(("lost", "more"), (0, 1)):
         for place in sorted(draw.sample(range(totals[way] - TAIL[way]), 10)):
-            yield is_spoilt, f"{kind}, way {way}, byte {place}", kind, way, place, draw.choice([0, 1, 2, place % 256])
-    yield is_spoilt, "a byte that is no way", "more", 1, 0, 7, r"^host\.py: the cable has lost a byte, or has one too many: 7 is no way\n$"
+            yield (
+                is_spoilt,
+                f"{kind}, way {way}, byte {place}",
+                kind,
+                way,
+                place,
+                draw.choice([0, 1, 2, place % 256]),
+            )
+    yield (
+        is_spoilt,
+        "a byte that is no way",
+        "more",
+        1,
+        0,
+        7,
+        r"^host\.py: the cable has lost a byte, or has one too many: 7 is no way\n$",
+    )
     for place, awaited in SILENT.items():
-        yield falls_silent, f"silent from byte {place} on", 1, place % totals[1] if place else 0, awaited
+        yield (
+            falls_silent,
+            f"silent from byte {place} on",
+            1,
+            place % totals[1] if place else 0,
+            awaited,
+        )
     for place in draw.sample(range(totals[0]), 20 - len(SILENT)):
         yield falls_silent, f"the board hears nothing from byte {place} on", 0, place, ""
     for place in 41, 101, totals[1] - TAIL[1] - 5:
         yield comes_again, f"another answer, byte {place}", place
     for m, setting in itertools.product((0, 2), range(3)):
-        yield says_who_is_killed, f"module {m} is killed in setting {setting}", m, setting, "--cable", "cable"
+        yield (
+            says_who_is_killed,
+            f"module {m} is killed in setting {setting}",
+            m,
+            setting,
+            "--cable",
+            "cable",
+        )
     yield says_who_is_killed, "a module is killed, and the host is the rack's", 2, 1
     yield ends_its_host, "a module is killed before the rack's host begins"
 
 
 def hosts():
-    """Hosts that are wrong, or that modules don't fit, and those that follow a killed one, or come before the rack."""
-    case, other = ("3x2x2", read("three-transfers.txt"), APART), "has other tables than those of this batch and schedule"
-    yield compares, "tables of another schedule", f"host.py: module 0 {other}\nhost.py: module 1 {other}\nhost.py: module 2 {other}\n", \
-        case, {}, None, ["--schedule", f"{EXAMPLES}/three-transfers.plan.txt"]
-    swapped = f"host.py: module 0 {other}; they are those of module 2\nhost.py: module 2 {other}; they are those of module 0\n"
+    """Hosts that are wrong, or that modules don't fit, and those that follow a killed one,
+    or come before the rack."""
+    case, other = (
+        ("3x2x2", read("three-transfers.txt"), APART),
+        "has other tables than those of this batch and schedule",
+    )
+    yield (
+        compares,
+        "tables of another schedule",
+        f"host.py: module 0 {other}\nhost.py: module 1 {other}\nhost.py: module 2 {other}\n",
+        case,
+        {},
+        None,
+        ["--schedule", f"{EXAMPLES}/three-transfers.plan.txt"],
+    )
+    swapped = (
+        f"host.py: module 0 {other}; they are those of module 2\n"
+        f"host.py: module 2 {other}; they are those of module 0\n"
+    )
     yield compares, "exchanged slots", swapped, case, {}, {0: 2, 2: 0}
-    yield compares, "a module is missing", "host.py: the chain has 3 modules: module 3 is missing\n", case, {}, None, [], "batch 1\npush 3 0 0 0\n"
-    size = "module.Module.told = property(lambda self: self.t, lambda self, t: setattr(self, 't', t[:2] + b'\\1\\0\\2\\0'))"
-    blocks = "host.py: module 1 has 1 blocks of 2 words, and module 0 has 2 of 2\nhost.py: module 1 has 1 blocks, and the batch names its block 1\n"
+    yield (
+        compares,
+        "a module is missing",
+        "host.py: the chain has 3 modules: module 3 is missing\n",
+        case,
+        {},
+        None,
+        [],
+        "batch 1\npush 3 0 0 0\n",
+    )
+    size = (
+        "module.Module.told = property(lambda self: self.t, lambda self, t: setattr(self, 't', "
+        "t[:2] + b'\\1\\0\\2\\0'))"
+    )
+    blocks = (
+        "host.py: module 1 has 1 blocks of 2 words, and module 0 has 2 of 2\n"
+        "host.py: module 1 has 1 blocks, and the batch names its block 1\n"
+    )
     yield compares, "a module of another size", blocks, case, {1: size}
-    yield compares, "an image of another size", "file has 0 bytes, and 3 modules of 2 blocks of 2 words have 48\n", case, {}, None, \
-        ["--schedule", "schedule", "--image", "file"]
-    yield compares, "an image that is too long", f"host.py has {os.path.getsize(HOST)} bytes, and 3 modules of 2 blocks of 2 words have 48\n", case, {}, None, \
-        ["--schedule", "schedule", "--image", HOST]
-    yield compares, "another number comes back", "host.py: 1 came back, and awaited was 0 from the modules, which have to do setting 0\n", \
-        ("1x2x1", "batch 1\npush 0 0 0 1\n", []), {0: ERRS}
+    yield (
+        compares,
+        "an image of another size",
+        "file has 0 bytes, and 3 modules of 2 blocks of 2 words have 48\n",
+        case,
+        {},
+        None,
+        ["--schedule", "schedule", "--image", "file"],
+    )
+    yield (
+        compares,
+        "an image that is too long",
+        (
+            f"host.py has {os.path.getsize(HOST)} bytes, and 3 modules of 2 blocks of 2 words have "
+            "48\n"
+        ),
+        case,
+        {},
+        None,
+        ["--schedule", "schedule", "--image", HOST],
+    )
+    yield (
+        compares,
+        "another number comes back",
+        "host.py: 1 came back, and awaited was 0 from the modules, which have to do setting 0\n",
+        ("1x2x1", "batch 1\npush 0 0 0 1\n", []),
+        {0: ERRS},
+    )
     for cable in "file", "half":
-        yield host_says, f"a plain file for a cable, {cable}", f"host.py: {cable} is a plain file, and no cable\n", cable
+        yield (
+            host_says,
+            f"a plain file for a cable, {cable}",
+            f"host.py: {cable} is a plain file, and no cable\n",
+            cable,
+        )
     yield goes_on, "a host that is killed in its pause"
     yield pauses, "a pause"
     yield waits, "a host before its rack"
-    yield host_says, "--go-on", "host.py: by --go-on drive would set the next setting before the modules have moved the blocks of this one\n", \
-        "cable", "--go-on"
-    yield host_says, "standard input", "host.py: no file is standard input: the program reads them more than once\n", "cable", "--wiring", "-"
+    yield (
+        host_says,
+        "--go-on",
+        (
+            "host.py: by --go-on drive would set the next setting before the modules have moved "
+            "the blocks of this one\n"
+        ),
+        "cable",
+        "--go-on",
+    )
+    yield (
+        host_says,
+        "standard input",
+        "host.py: no file is standard input: the program reads them more than once\n",
+        "cable",
+        "--wiring",
+        "-",
+    )
     yield host_says, "a batch that is refused", "refused file\n", "cable", "--schedule", "missing"
-    yield host_says, "no such setting", "host.py: --from 3 names no setting\n", "cable", "--tables", "--from", "3"
-    yield host_says, "no cable", "host.py: [Errno 2] No such file or directory: 'missing'\n", "missing"
+    yield (
+        host_says,
+        "no such setting",
+        "host.py: --from 3 names no setting\n",
+        "cable",
+        "--tables",
+        "--from",
+        "3",
+    )
+    yield (
+        host_says,
+        "no cable",
+        "host.py: [Errno 2] No such file or directory: 'missing'\n",
+        "missing",
+    )
+    yield (
+        host_says,
+        "an image that can't be written, before there is a cable",
+        "host.py: [Errno 2] No such file or directory: 'none/left'\n",
+        "missing",
+        "--image-out",
+        "none/left",
+    )
+    yield ends_modules, "an image that the disk has no room for"
     yield host_says, "a folder for a cable", "host.py: [Errno 21] Is a directory: '.'\n", "."
     yield is_flooded, "bytes come without end, before anything is sent"
 
@@ -934,55 +1400,265 @@ def slowly(*replies):
 
 def boards_that_say_too_much():
     """Bytes without end, too many modules, and a board that can't set its switches by tables."""
-    waits, own = (4, host.sent(host.WAIT)), host.orders_sum([], [[(0, "send block", 0), (3, "receive block", 0)]])
+    waits, own = (
+        (4, host.sent(host.WAIT)),
+        host.orders_sum([], [[(0, "send block", 0), (3, "receive block", 0)]]),
+    )
     modules = [own, 1, 1] + [host.orders_sum([], [[]]), 1, 1] * 16
-    yield hears, "bytes come slowly", "host.py: more than 32 modules answer\n", slowly(*[(0, b"\0")] * 6, waits, (4, host.sent(*modules[:3] * 33))), "--patience", "4"
-    yield hears, "bytes come without end", "host.py: bytes come without end, and awaited was -2 from the modules, which all of them pass on\n", [(4, bytes(140_000))]
-    yield hears, "more than 32 modules", "host.py: more than 32 modules answer\n", [waits, (4, host.sent(*modules[:3] * 33))]
-    yield hears, "tables, and two switches", "host.py: --tables is for a board with one switch\n", [waits, (4, host.sent(*modules, host.TABLES))], "--tables"
+    yield (
+        hears,
+        "bytes come slowly",
+        "host.py: more than 32 modules answer\n",
+        slowly(*[(0, b"\0")] * 6, waits, (4, host.sent(*modules[:3] * 33))),
+        "--patience",
+        "4",
+    )
+    yield (
+        hears,
+        "bytes come without end",
+        (
+            "host.py: bytes come without end, and awaited was -2 from the modules, "
+            "which all of them pass on\n"
+        ),
+        [(4, bytes(140_000))],
+    )
+    yield (
+        hears,
+        "more than 32 modules",
+        "host.py: more than 32 modules answer\n",
+        [waits, (4, host.sent(*modules[:3] * 33))],
+    )
+    yield (
+        hears,
+        "tables, and two switches",
+        "host.py: --tables is for a board with one switch\n",
+        [waits, (4, host.sent(*modules, host.TABLES))],
+        "--tables",
+    )
 
 
 def misused():
     """Programs of the examples that are handed wrong words or texts, or lack what they need."""
-    python, made_of = sys.executable, f"""\"$EXCHANGE\" {{}} | {sys.executable} '{EXAMPLES}/{{}}.py'"""
-    yield says, "misuse: a relay", 1, "usage: relay.py CABLE CONFIG [CONFIG_B] [CHAIN]\n", python, RELAY, "--help", "config"
+    python, made_of = (
+        sys.executable,
+        f"""\"$EXCHANGE\" {{}} | {sys.executable} '{EXAMPLES}/{{}}.py'""",
+    )
+    yield (
+        says,
+        "misuse: a relay",
+        1,
+        "usage: relay.py CABLE CONFIG [CONFIG_B] [CHAIN]\n",
+        python,
+        RELAY,
+        "--help",
+        "config",
+    )
     path = f"PATH={os.path.dirname(host.PROGRAM)}:{os.environ['PATH']}"
-    yield says, "misuse: a host without a program", 1, "host.py: there is no program /none\n", "env", "EXCHANGE=/none", path, python, HOST, "cable", "batch"
-    yield says, "misuse: a host's option", 2, "--pause: host.py takes these, and with --cable you start it\n", \
-        python, RACK, "2x1x1", "batch", "--cable", "cable", "--pause"
-    yield says, "misuse: no batch", 1, "rack.py: [Errno 2] No such file or directory: 'missing'\n", python, RACK, "2x1x1", "missing"
-    yield says, "misuse: no module exchange", 1, "./exchange install PREFIX puts it there, and docs/BOARD.md says how\n", python, "-IS", RACK, "2x1x1", "batch"
-    yield says, "misuse: no orders", 1, "wanted is what `exchange orders BATCH` prints\n", python, f"{EXAMPLES}/orders_to_c.py"
-    yield says, "misuse: orders of two modules", 1, "wanted are the orders of one module: exchange orders BATCH --module M\n", \
-        "sh", "-c", made_of.format("orders batch", "orders_to_occam")
-    yield says, "misuse: bytes of two switches", 1, "wanted are the bytes of one switch: exchange switch BATCH\n", \
-        "sh", "-c", made_of.format("switch batch --switches 2", "switch_to_c")
-    yield says, "misuse: bytes of setting 1 alone", 1, "wanted are the bytes of one switch: exchange switch BATCH\n", \
-        "sh", "-c", made_of.format("switch batch | sed 's/ 0 / 1 /'", "switch_to_c")
-    yield says, "misuse: no program to drive", 1, "there is no program /none\n", python, f"{EXAMPLES}/emulator/links.py", "/none"
-    yield says, "misuse: no pipes", 1, "its first lines say how to make them and start the host\n", python, f"{EXAMPLES}/all-reduce.py"
-    yield says, "misuse: patterns", 2, "make.sh: one word at most, --check\n", f"{EXAMPLES}/patterns/make.sh", "check"
+    yield (
+        says,
+        "misuse: a host without a program",
+        1,
+        "host.py: there is no program /none\n",
+        "env",
+        "EXCHANGE=/none",
+        path,
+        python,
+        HOST,
+        "cable",
+        "batch",
+    )
+    yield (
+        says,
+        "misuse: a host's option",
+        2,
+        "--pause: host.py takes these, and with --cable you start it\n",
+        python,
+        RACK,
+        "2x1x1",
+        "batch",
+        "--cable",
+        "cable",
+        "--pause",
+    )
+    yield (
+        says,
+        "misuse: no batch",
+        1,
+        "rack.py: [Errno 2] No such file or directory: 'missing'\n",
+        python,
+        RACK,
+        "2x1x1",
+        "missing",
+    )
+    yield (
+        says,
+        "misuse: no module exchange",
+        1,
+        "./exchange install PREFIX puts it there, and docs/BOARD.md says how\n",
+        python,
+        "-IS",
+        RACK,
+        "2x1x1",
+        "batch",
+    )
+    yield (
+        says,
+        "misuse: no orders",
+        1,
+        "wanted is what `exchange orders BATCH` prints\n",
+        python,
+        f"{EXAMPLES}/orders_to_c.py",
+    )
+    yield (
+        says,
+        "misuse: orders of two modules",
+        1,
+        "wanted are the orders of one module: exchange orders BATCH --module M\n",
+        "sh",
+        "-c",
+        made_of.format("orders batch", "orders_to_occam"),
+    )
+    yield (
+        says,
+        "misuse: bytes of two switches",
+        1,
+        "wanted are the bytes of one switch: exchange switch BATCH\n",
+        "sh",
+        "-c",
+        made_of.format("switch batch --switches 2", "switch_to_c"),
+    )
+    yield (
+        says,
+        "misuse: bytes of setting 1 alone",
+        1,
+        "wanted are the bytes of one switch: exchange switch BATCH\n",
+        "sh",
+        "-c",
+        made_of.format("switch batch | sed 's/ 0 / 1 /'", "switch_to_c"),
+    )
+    yield (
+        says,
+        "misuse: no program to drive",
+        1,
+        "there is no program /none\n",
+        python,
+        f"{EXAMPLES}/emulator/links.py",
+        "/none",
+    )
+    yield (
+        says,
+        "misuse: no pipes",
+        1,
+        "its first lines say how to make them and start the host\n",
+        python,
+        f"{EXAMPLES}/all-reduce.py",
+    )
+    yield (
+        says,
+        "misuse: patterns",
+        2,
+        "make.sh: one word at most, --check\n",
+        f"{EXAMPLES}/patterns/make.sh",
+        "check",
+    )
 
 
 def alone():
     """Racks that are refused or told to end, and a switch, a module, a relay and a host alone."""
-    yield refuses, "two transfers that write one block", "refused overlap 0 1", "exchange: batch:3: ", "3x1x1", "batch 2\npush 0 0 1 0\npush 2 0 1 0\n", []
-    yield refuses, "no schedule of the batch", "refused check missing 1", "exchange: {}/schedule", "2x1x1", read("swap.txt"), "settings 1\nsetting 0\n"
-    yield refuses, "no shape", "refused shape", 'exchange: "0x1x1" isn\'t "MxKxW": ', "0x1x1", "batch 0\n", []
-    yield refuses, "a batch of more modules", "refused no module 0", "exchange: batch:2: ", "1x1x1", "batch 1\npush 0 0 1 0\n", []
+    yield (
+        refuses,
+        "two transfers that write one block",
+        "refused overlap 0 1",
+        "exchange: batch:3: ",
+        "3x1x1",
+        "batch 2\npush 0 0 1 0\npush 2 0 1 0\n",
+        [],
+    )
+    yield (
+        refuses,
+        "no schedule of the batch",
+        "refused check missing 1",
+        "exchange: {}/schedule",
+        "2x1x1",
+        read("swap.txt"),
+        "settings 1\nsetting 0\n",
+    )
+    yield (
+        refuses,
+        "no shape",
+        "refused shape",
+        'exchange: "0x1x1" isn\'t "MxKxW": ',
+        "0x1x1",
+        "batch 0\n",
+        [],
+    )
+    yield (
+        refuses,
+        "a batch of more modules",
+        "refused no module 0",
+        "exchange: batch:2: ",
+        "1x1x1",
+        "batch 1\npush 0 0 1 0\n",
+        [],
+    )
     unwired = "exchange: batch:2: link 0 of module 0; backwards:2 leaves it out"
-    yield refuses, "a link that isn't on the switch", "refused no link 0", unwired, "3x2x2", "batch 1\npush 0 0 2 0\n", ["--wiring", "backwards"]
-    yield refuses, "a wiring, and two switches", "rack.py: a wiring is that of one switch, and 17 modules have two", "", "17x1x1", read("swap.txt"), \
-        ["--wiring", "wiring"]
+    yield (
+        refuses,
+        "a link that isn't on the switch",
+        "refused no link 0",
+        unwired,
+        "3x2x2",
+        "batch 1\npush 0 0 2 0\n",
+        ["--wiring", "backwards"],
+    )
+    yield (
+        refuses,
+        "a wiring, and two switches",
+        "rack.py: a wiring is that of one switch, and 17 modules have two",
+        "",
+        "17x1x1",
+        read("swap.txt"),
+        ["--wiring", "wiring"],
+    )
     whole = b"".join(PARTS)
     yield carries, "words in parts", JOIN + SETTLE, 0, whole, ""
-    yield carries, "words before the switch has settled", JOIN, 0, b"", LOOSE.format("link 0 of module 0")
+    yield (
+        carries,
+        "words before the switch has settled",
+        JOIN,
+        0,
+        b"",
+        LOOSE.format("link 0 of module 0"),
+    )
     yield carries, "words of link 3 before that", JOIN, 3, b"", LOOSE.format("link 3 of module 1")
     yield receives, "a block in parts", PARTS, [], b"\0", b"\0\0", whole, b"\xfb\xff\xff\xff", [], 0
-    yield receives, "a part of a block", PARTS[:1], [], b"", b"", b"", b"", ["module.py: a link has ended"], 3
+    yield (
+        receives,
+        "a part of a block",
+        PARTS[:1],
+        [],
+        b"",
+        b"",
+        b"",
+        b"",
+        ["module.py: a link has ended"],
+        3,
+    )
     yield is_relayed, "the relay alone"
-    yield relay_ends, "a relay whose chain has ended", b"\1\0\1\0", 3, "relay.py: a link has ended\n"
-    yield relay_ends, "a relay that is sent another way", b"\2\0", 1, "relay.py: the cable has lost a byte, or has one too many: 2 is no way\n"
+    yield (
+        relay_ends,
+        "a relay whose chain has ended",
+        b"\1\0\1\0",
+        3,
+        "relay.py: a link has ended\n",
+    )
+    yield (
+        relay_ends,
+        "a relay that is sent another way",
+        b"\2\0",
+        1,
+        "relay.py: the cable has lost a byte, or has one too many: 2 is no way\n",
+    )
     yield ends, "a cable that ends", 1
     yield ends, "a cable that ends, and two switches", 2, "--switches", "2"
     yield is_cut, "a cable that nobody reads any more"
@@ -1010,11 +1686,19 @@ def tries(count, totals):
 
 def count_bytes(installed):
     """How many bytes go each way over a cable that isn't spoilt."""
-    with tempfile.TemporaryDirectory(dir=".") as path, contextlib.closing(Room(installed, os.path.abspath(path), "a sound cable")) as room:
+    with (
+        tempfile.TemporaryDirectory(dir=".") as path,
+        contextlib.closing(Room(installed, os.path.abspath(path), "a sound cable")) as room,
+    ):
         room.write(*SPOILT)
         between = Between(room)
         told = room.end(room.host("--image", "image", "--image-out", "left"))
-        room.expect(told == "setting 0 0 1\ndriven settings 1\n" and room.is_left() and room.end(between.rack) == "", told)
+        room.expect(
+            told == "setting 0 0 1\ndriven settings 1\n"
+            and room.is_left()
+            and room.end(between.rack) == "",
+            told,
+        )
         return between.counts
 
 
@@ -1050,8 +1734,13 @@ def main():
     with tempfile.TemporaryDirectory(prefix="racks-") as path:
         installed = os.path.abspath(os.environ.get("RACK") or f"{path}/rack")
         if not os.environ.get("RACK"):
-            subprocess.run([f"{TOP}/tools/install/install.sh", installed], stdout=subprocess.DEVNULL, check=True)
-        # Their Python has no packages: so each starts in a fourth of the time, where this one has many.
+            subprocess.run(
+                [f"{TOP}/tools/install/install.sh", installed],
+                stdout=subprocess.DEVNULL,
+                check=True,
+            )
+        # Their Python has no packages: so each starts in a fourth of the time,
+        # where this one has many.
         venv.create(f"{path}/python", symlinks=True)
         sys.executable = f"{path}/python/bin/python3"
         os.chdir(path)

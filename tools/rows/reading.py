@@ -81,11 +81,20 @@ def unescape(text: str) -> bytes:
     return "".join(parts).encode()
 
 
+def take_line(lines: list[str]) -> str:
+    """Takes a line from those that are left, and the lines in which it goes on: behind one that
+    ends in a space and a backslash, and without their indentation."""
+    line = lines.pop()
+    while line.endswith(" \\") and lines:
+        line = line[:-1] + lines.pop().lstrip(" ")
+    return line
+
+
 def take_text(lines: list[str]) -> bytes:
     """Takes an indented text from the lines that are left. Empty lines within it are its own."""
     text, empty = "", 0
     while lines and (not lines[-1].strip() or lines[-1].startswith("    ")):
-        line = lines.pop()
+        line = take_line(lines)
         if line.strip():
             text, empty = text + "\n" * empty + line[4:] + "\n", 0
         else:
@@ -126,10 +135,14 @@ def read_rows(path: Path, name: str) -> list[Row]:
     lines = path.read_text(encoding="utf-8").split("\n")[::-1]
     count, rows, shared = len(lines), [], []
     while lines:
-        place, line = f"{name}:{count - len(lines) + 1}", lines.pop()
+        place, line = f"{name}:{count - len(lines) + 1}", take_line(lines)
         if line.startswith("row "):
             rows.append(Row(place, line[4:], there=[*shared]))
-        elif line and line[0] != "#" and not read_line(rows[-1] if rows else None, shared, line, lines):
+        elif (
+            line
+            and line[0] != "#"
+            and not read_line(rows[-1] if rows else None, shared, line, lines)
+        ):
             raise Unreadable(f"{place}: {line!r} isn't a line of a row")
     check_rows(rows)
     return rows

@@ -1,5 +1,6 @@
 #!/usr/bin/env python3
-"""Runs the built program on the rows of the folder rows, and compares what it prints and how it ends.
+"""Runs the built program on the rows of the folder rows,
+and compares what it prints and how it ends.
 
     tools/rows/run.py [WORD..]     all rows, or those whose file's name or own name has a word
 
@@ -210,7 +211,9 @@ def read_all(words: Sequence[str]) -> list[Row]:
     """The rows of all files, or those that have a word."""
     files = sorted((REPOSITORY / "rows").glob("*.rows"))
     rows = [row for file in files for row in read_rows(file, f"rows/{file.name}")]
-    return [it for it in rows if not words or any(word in f"{it.place} {it.name}" for word in words)]
+    return [
+        it for it in rows if not words or any(word in f"{it.place} {it.name}" for word in words)
+    ]
 
 
 def main() -> None:

@@ -1,73 +1,124 @@
 #!/usr/bin/env python3
-"""Tells names of definitions that have one meaning in one crate and another in a second one.
+"""Prints each name that means more than one thing, of a definition, a type or a constant.
 
     tools/texts/names.py [FOLDER]     of this repository, or of another one
 
-Read are the definitions of crates/*/specs/*.antt. Two of one name mean the same where their texts
-are the same, but for comments and spaces. Where they differ the name has to stand in names.txt with
-all its crates, below a line that says why it may. A line there that isn't needed is told, which is
-no fault.
+Read are the definitions for contracts in crates/*/specs, and the types and constants in
+crates/*/src, private ones too. Left out are those inside a trait or an `impl`, and the types and
+constants of crates that only test, since these are private to a file of rows.
+
+Two of one name mean the same if their texts are the same, but for comments, spaces and who may use
+them. If the texts differ, in two crates or in one, the name has to stand in names.txt with its
+crates, below a line that says why it may. If nothing is wrong, what isn't needed there is printed.
 """
 
-import os
+from __future__ import annotations
+
 import re
 import sys
+from collections import defaultdict
+from collections.abc import Iterator
+from pathlib import Path
+from typing import NamedTuple
 
-TOP = os.path.dirname(os.path.dirname(os.path.dirname(os.path.abspath(__file__))))
-ALLOWED = os.path.join(os.path.dirname(os.path.abspath(__file__)), "names.txt")
+sys.path.insert(0, str(Path(__file__).resolve().parents[1]))
 
-# How a definition begins: behind these words stands its name.
-HEAD = re.compile(r"(?:abbrev pub|unfoldable pub|(?:pub )?record|(?:pub )?data) +(?=([^\s:({]+))")
+from harness import REPOSITORY, Report  # noqa: E402
 
-# Where the next part of a file begins: a definition, in a block of them or not, or a line of another kind.
-PARTS = re.compile(r"\n *(?=(?:abbrev|unfoldable) pub |(?:pub )?(?:record (?!\{)|data |use )|module )")
-
-
-def definitions(path):
-    """The names that a file of definitions defines, each with its text."""
-    with open(path, encoding="utf-8") as file:
-        text = re.sub(r"(?m)^ *--.*\n", "", file.read())
-    for part in PARTS.split(f"\n{text}"):
-        head = HEAD.match(part)
-        if head:
-            yield head[1], " ".join(part[head.end() :].split())
+ALLOWED = Path(__file__).with_name("names.txt")
+TESTS = re.compile(r"_tests$|^hostile_use$")
 
 
-def crates_of(top):
-    """Each name that is defined, with the texts that it has in each crate."""
-    found = {}
-    for crate in sorted(os.listdir(f"{top}/crates")):
-        specs = f"{top}/crates/{crate}/specs"
-        for file in sorted(os.listdir(specs)) if os.path.isdir(specs) else []:
-            for name, text in definitions(f"{specs}/{file}"):
-                found.setdefault(name, {}).setdefault(crate, set()).add(text)
-    return found
+class Language(NamedTuple):
+    """How the items that have names are found in files."""
+
+    items: str
+    files: str
+    comment: re.Pattern[str]
+    # What is between two items. Those without names count too.
+    border: re.Pattern[str]
+    # How an item begins, up to the text that has its name.
+    head: re.Pattern[str]
 
 
-def differ(crates):
-    """Whether a name has different texts in different crates."""
-    return len(crates) > 1 and len(set().union(*crates.values())) > 1
+CONTRACTS = Language(
+    items="definitions",
+    files="specs/*.antt",
+    comment=re.compile(r"(?m)^ *--.*\n"),
+    border=re.compile(r"\n *(?=(?:abbrev|unfoldable) pub |pub (?:record|data|use) |use |module )"),
+    head=re.compile(r"(?:(?:abbrev|unfoldable) pub|pub (?:record|data)) +(?=([^\s:({]+))"),
+)
+CODE = Language(
+    items="types and constants",
+    files="src/**/*.rt",
+    comment=re.compile(r"(?m)^ *//.*\n"),
+    border=re.compile(
+        r"\n(?=#\[|(?:pub(?:\(\w+\))? )?"
+        r"(?:struct|enum|trait|type|const|static|unsafe|impl|fn|mod|use|ghost)\b)"
+    ),
+    head=re.compile(
+        r"(?:pub(?:\(\w+\))? )?(?=(?:struct|enum|trait|type|const|static) ([A-Z]\w*))"
+    ),
+)
 
 
-def allowed():
-    """The names that may have several meanings, each with its crates."""
-    with open(ALLOWED, encoding="utf-8") as file:
-        lines = [line.split() for line in file if line.strip() and not line.startswith("#")]
-    return {name: set(crates) for name, *crates in lines}
+class Item(NamedTuple):
+    """A definition, a type or a constant."""
+
+    name: str
+    text: str
+    crate: str
+    file: str
 
 
-def main():
-    found = crates_of(sys.argv[1] if sys.argv[1:] else TOP)
-    several = {name: set(crates) for name, crates in found.items() if differ(crates)}
+def items(top: Path, language: Language) -> Iterator[Item]:
+    """All items that have names in this language."""
+    for file in sorted(top.glob(f"crates/*/{language.files}")):
+        place = file.relative_to(top)
+        crate = place.parts[1]
+        if language is CODE and TESTS.search(crate):
+            continue
+        text = language.comment.sub("", "\n" + file.read_text(encoding="utf-8"))
+        for part in language.border.split(text):
+            if head := language.head.match(part):
+                yield Item(head[1], " ".join(part[head.end() :].split()), crate, str(place))
+
+
+def meanings(found: list[Item]) -> int:
+    """How many texts items of one name have."""
+    return len({item.text for item in found})
+
+
+def allowed() -> dict[str, set[str]]:
+    """The crates of each name that may mean more than one thing."""
+    lines = ALLOWED.read_text(encoding="utf-8").splitlines()
+    fields = [line.split() for line in lines if line and not line.startswith("#")]
+    return {name: set(crates) for name, *crates in fields}
+
+
+def main() -> None:
+    top = Path(sys.argv[1]) if sys.argv[1:] else REPOSITORY
+    report = Report("names")
+    named: dict[str, list[Item]] = defaultdict(list)
+    for language in (CONTRACTS, CODE):
+        found = list(items(top, language))
+        report.judge(language.items, [] if found else [f"there are none in {top}"])
+        print(f"names: {len(found)} {language.items}")
+        for item in found:
+            named[item.name].append(item)
+
+    several = {name: found for name, found in named.items() if meanings(found) > 1}
     may = allowed()
-    clashes = [name for name in sorted(several) if not several[name] <= may.get(name, set())]
-    for name in clashes:
-        print(f"names: WRONG: {name} has more than one meaning: in {', '.join(sorted(several[name]))}")
-    for name in sorted(set(may) - set(several)):
-        print(f"{name} has one meaning, and needs no line in names.txt")
-    print(f"names: {len(found)} of definitions, {len(several)} of them with several meanings")
-    print(f"names: {len(clashes)} of these not allowed")
-    sys.exit(1 if clashes or not found else 0)
+    for name, found in sorted(several.items()):
+        crates = {item.crate for item in found}
+        files = sorted({item.file for item in found})
+        is_allowed = crates <= may.get(name, set())
+        report.judge(f"{name} means more than one thing", [] if is_allowed else files)
+    for name, crates in may.items():
+        spare = crates - {item.crate for item in several.get(name, [])}
+        if spare and not report.wrong:
+            print(f"names: {name} needs no {', '.join(sorted(spare))} in names.txt")
+    report.finish(told=f"{len(several)} names with several meanings, {{wrong}} wrong")
 
 
 if __name__ == "__main__":

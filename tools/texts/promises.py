@@ -3,11 +3,11 @@
 
     tools/texts/promises.py
 
-A promise is a definition of crates/exchange/specs/Promises.antt. It rests on all definitions that it
-cites, and that these cite, down to names that are made from code (specs.declared) and to those of
-the toolchain. Counted are their lines, without comments. The document has `NAME` (N lines) for each
-promise, where the lines of the grammar aren't counted, and one sentence on all of them. Each block of
-definitions that it shows has to stand in the file as it is.
+A promise is a definition of crates/exchange/specs/Promises.antt. It rests on all definitions that
+it cites, and that these cite, down to names that are made from code (specs.declared) and to those
+of the toolchain. Counted are their lines, without comments. The document has `NAME` (N lines) for
+each promise, where the lines of the grammar aren't counted, and one sentence on all of them. Each
+block of definitions that it shows has to stand in the file as it is.
 
 Each law, a public function of a crate's src/laws.rt, has to be called by code, or named by what its
 crate's lib.rt says of the crate, as `laws::NAME`, or by a page that names the crate in the same
@@ -28,7 +28,9 @@ LAW = ("exchange", "Rights", "RightIsNotWrong")
 # What is imported: a file's names in braces, or the file under another name.
 NAMES = re.compile(r"(pub )?use Rattle\.([\w-]+)\.specs\.([\w.]+)\.\{([^}]*)\}")
 FILES = re.compile(r"use Rattle\.([\w-]+)\.specs\.([\w.]+) as ([\w-]+)")
-HEAD = re.compile(r" *(?:abbrev pub|unfoldable pub|opaque pub|(?:pub )?record|(?:pub )?data) +([^\s:({]+)")
+HEAD = re.compile(
+    r" *(?:abbrev pub|unfoldable pub|opaque pub|(?:pub )?record|(?:pub )?data) +([^\s:({]+)"
+)
 WORDS = re.compile(r"[^\s(){}\[\],;:.λ→×⊎≡]+")
 
 # Where a part of a page ends: a paragraph, a point of a list, or a row of a table.
@@ -51,7 +53,8 @@ def definitions(lines):
 
 
 def read():
-    """Each file of definitions: these, and the names that it imports, and those that it hands on."""
+    """Each file of definitions: these, and the names that it imports,
+    and those that it hands on."""
     told, names, handed = {}, {}, {}
     for path in glob.glob(f"{TOP}/crates/*/specs/**/*.antt", recursive=True):
         crate, rest = path[len(TOP) + len("/crates/") :].split("/specs/")
@@ -83,7 +86,8 @@ def cited(file, name, told, names):
 
 
 def rests_on(start, told, names, handed):
-    """The definitions that those cite, names that are made from code, and those of the toolchain."""
+    """The definitions that those cite, names that are made from code,
+    and those of the toolchain."""
     seen, made, others, todo = {}, set(), set(), list(start)
     while todo:
         crate, place, name = one = todo.pop()
@@ -110,7 +114,8 @@ def text_of(path):
 
 
 def unused_laws():
-    """How many laws there are, and those that no page names and no code calls, with their crates."""
+    """How many laws there are, and those that no page names and no code calls,
+    with their crates."""
     pages = [f"{TOP}/README.md", f"{TOP}/CONTRIBUTING.md", *glob.glob(f"{TOP}/docs/*.md")]
     parts = [part for page in pages for part in PARTS.split(text_of(page))]
     code, laws, unused = {}, 0, []
@@ -119,14 +124,19 @@ def unused_laws():
     for path in sorted(path for path in code if path.endswith("/src/laws.rt")):
         crate = path.split("/")[-3]
         about = code.get(path.replace("/laws.rt", "/lib.rt"), "")
-        own = {other: text for other, text in code.items() if f"/{crate}/" in other or re.search(rf"\buse {crate}\b", text)}
+        own = {
+            other: text
+            for other, text in code.items()
+            if f"/{crate}/" in other or re.search(rf"\buse {crate}\b", text)
+        }
         for name in re.findall(r"(?m)^pub fn (\w+)", code[path]):
             laws += 1
             told = re.search(rf"(?m)^//!.*`laws::{name}`", about) or any(
                 f"`{name}`" in part and re.search(rf"\b{crate}\b", part) for part in parts
             )
             called = re.search(rf"(?m)^    (let \w+ = )?{name}\(", code[path]) or any(
-                re.search(rf"(?m)^ *[^/].*laws::{name}\(|^use {crate}::laws::{name};", text) for text in own.values()
+                re.search(rf"(?m)^ *[^/].*laws::{name}\(|^use {crate}::laws::{name};", text)
+                for text in own.values()
             )
             if not told and not called:
                 unused.append(f"{crate} {name}")
@@ -155,7 +165,8 @@ def main():
     seen, made, others = rests_on([*start, LAW], told, names, handed)
     all_of = (
         f"rest on {sum(seen.values()):,} lines in {len(seen)} definitions. Of these lines "
-        f"{sum(grammar.values())} say which arguments ask for which job. Together they cite {len(made)} names "
+        f"{sum(grammar.values())} say which arguments ask for which job. Together they cite "
+        f"{len(made)} names "
         f"that are made from code, and {len(others)} of the toolchain's libraries."
     )
     print(f"promises: all {all_of}")

@@ -3,21 +3,24 @@
 
     tools/texts/run.py [FILE..]     all documents, or these
 
-A document shows commands and what they print in a block that begins with ```console. A line that begins with `$ ` is a command, and the
-lines after it, up to the next one, are what it prints on both streams, whatever its status. A line that is `...` stands for any lines.
-The commands of a document run one after another, by the shell bash, in a folder with the repository's examples and `./exchange`.
-A block that begins with ```file NAME isn't run: it is a file of that name for the commands after it.
+A document shows commands and what they print in a block that begins with
+```console. A line that begins with `$ ` is a command, and the lines after it, up to the next one,
+are what it prints on both streams, whatever its status. A line that is `...` stands for any lines.
+The commands of a document run one after another, by the shell bash, in a folder with the
+repository's examples and `./exchange`. A block that begins with
+```file NAME isn't run: it is a file of that name for the commands after it.
 
-Each command's help begins with a line that begins with `Example:`, and an example in the indented lines after it. It is run too, and has
-to end well.
+Each command's help begins with a line that begins with `Example:`, and an example in the indented
+lines after it. It is run too, and has to end well.
 
-Each link of a document has to lead to a file or folder of the repository, and where it names a heading there, to one. What a link to source
-code shows, as [`split`](../crates/euler_split/src/halving.rt#L40), has to stand there: a function or a type in that line, where it names
-one. Lines of more than 100 columns are printed, which is no fault; those of tables and of shown texts aren't. Nor is it a fault where README
-names another kit than `rt version` does, but that is printed too.
+Each link of a document has to lead to a file or folder of the repository, and where it names a
+heading there, to one. What a link to source code shows, as
+[`split`](../crates/euler_split/src/halving.rt#L40), has to stand there: a function or a type in
+that line, where it names one. README, CONTRIBUTING and .ci/run have to name one test command. Where
+README names another kit than `rt version` does, that is printed, which is no fault.
 
-A program that isn't built, or is older than its sources, is proved and built first. Another one is tried where EXCHANGE names it:
-EXCHANGE=other/exchange tools/texts/run.py
+A program that isn't built, or is older than its sources, is proved and built first. Another one is
+tried where EXCHANGE names it: EXCHANGE=other/exchange tools/texts/run.py
 """
 
 import os
@@ -35,17 +38,25 @@ PROGRAM = os.path.abspath(os.environ.get("EXCHANGE") or f"{TOP}/exchange")
 LIMIT = 300
 
 # The commands whose help begins with an example for one shell; that of `host` is a walk in several.
-HELPED = ("", "plan", "check", "draw", "switch", "orders", "drive", "c004", "direct", "apply", "run", "serve", "talk", "replay")
+HELPED = (
+    "", "plan", "check", "draw", "switch", "orders", "drive", "c004", "direct", "apply", "run",
+    "serve", "talk", "replay",
+)  # fmt: skip
 
 # Any lines, within what a command prints.
 ANY = "..."
 
-# The part of a link that names a line of source code, and what stands there before a name that is declared.
+# The part of a link that names a line of source code,
+# and what stands there before a name that is declared.
 SOURCE_LINE = re.compile(r"L[0-9]+")
 DECLARED = r"\b(?:fn|struct|enum|trait) "
 
-# Columns that a line of a document should have at most.
-COLUMNS = 100
+# Where files name the test command.
+TESTS = {
+    "README.md": r"\| `([^`]*)` \|.* all tests \|",
+    "CONTRIBUTING.md": r"\| everything holds \|[^|]*\| `([^`]*)` \|",
+    ".ci/run": r'exec "\$\(dirname "\$0"\)/\.\./([^"]*)"',
+}
 
 # The name of a kit, as README has it, and as `rt version` begins.
 KIT = re.compile(r"rattle-kit-\w+")
@@ -60,7 +71,11 @@ Shown = namedtuple("Shown", "place words lines")
 def documents():
     """All documents, by their names."""
     folders = [".", "docs", "rows", "examples/patterns"]
-    names = [os.path.normpath(f"{folder}/{name}") for folder in folders for name in os.listdir(f"{TOP}/{folder}")]
+    names = [
+        os.path.normpath(f"{folder}/{name}")
+        for folder in folders
+        for name in os.listdir(f"{TOP}/{folder}")
+    ]
     return sorted(name for name in names if name.endswith(".md"))
 
 
@@ -84,7 +99,9 @@ def parts(name):
 
 def headings(name):
     """The names by which links lead to the headings of a document."""
-    heads = [line.lstrip("#").strip().lower() for _, line in parts(name)[1] if re.match("#+ ", line)]
+    heads = [
+        line.lstrip("#").strip().lower() for _, line in parts(name)[1] if re.match("#+ ", line)
+    ]
     return [re.sub(r"[^\w -]", "", head).replace(" ", "-") for head in heads]
 
 
@@ -94,24 +111,38 @@ def leads(name, target):
     file = os.path.normpath(os.path.join(os.path.dirname(name), path)) if path else name
     if file.startswith("..") or not os.path.exists(f"{TOP}/{file}"):
         return False
-    return not head or (head in headings(file) if file.endswith(".md") else bool(SOURCE_LINE.fullmatch(head)))
+    return not head or (
+        head in headings(file) if file.endswith(".md") else bool(SOURCE_LINE.fullmatch(head))
+    )
 
 
 def places(name, shown, target):
-    """The lines in which the name that a link to source code shows stands in that file: of code those in which it is declared."""
-    with open(f"{TOP}/{os.path.dirname(name)}/{target.partition('#')[0]}", encoding="utf-8") as source:
+    """The lines in which the name that a link to source code shows stands in that file: of code
+    those in which it is declared."""
+    with open(
+        f"{TOP}/{os.path.dirname(name)}/{target.partition('#')[0]}", encoding="utf-8"
+    ) as source:
         lines = source.read().splitlines()
     word = rf"{DECLARED if '.rt' in target else ''}\b{shown.split('::')[-1]}\b"
     return [number for number, line in enumerate(lines, 1) if re.search(word, line)]
 
 
 def try_links(name):
-    """Tries the links of a document within the repository: how many there are, and how many lead nowhere."""
+    """Tries the links of a document within the repository: how many there are,
+    and how many lead nowhere."""
     text = "\n".join(line for _, line in parts(name)[1])
-    links = [link for link in re.findall(r"\]\(([^)\s]+)\)", re.sub(r"`[^`]*`", "", text)) if "://" not in link]
+    links = [
+        link
+        for link in re.findall(r"\]\(([^)\s]+)\)", re.sub(r"`[^`]*`", "", text))
+        if "://" not in link
+    ]
     sources = re.findall(r"\[`([^`]*)`\]\(([^)\s]+\.(?:rt|antt)(?:#\w+)?)\)", text)
     named = [link for _, link in sources]
-    wrong = [f"a link leads nowhere: {link}" for link in links if not leads(name, link) or "#L" in link and link not in named]
+    wrong = [
+        f"a link leads nowhere: {link}"
+        for link in links
+        if not leads(name, link) or "#L" in link and link not in named
+    ]
     for shown, link in ((shown, link) for shown, link in sources if leads(name, link)):
         found, line = places(name, shown, link), link.partition("#L")[2]
         if not found or line and int(line) not in found:
@@ -121,22 +152,37 @@ def try_links(name):
     return len(links), len(wrong)
 
 
-def try_columns(name):
-    """Tells the lines of a document that have too many columns: how many lines there are, and how many are too long."""
-    prose = parts(name)[1]
-    wide = [number for number, line in prose if len(line) > COLUMNS and not line.startswith("|")]
-    for number in wide:
-        print(f"{name}:{number}: more than {COLUMNS} columns")
-    return len(prose), len(wide)
-
-
 def compare_kits():
     """Prints the kit of this machine, where README names another one."""
     with open(f"{TOP}/README.md", encoding="utf-8") as page:
         named = set(KIT.findall(page.read()))
-    here = KIT.findall(subprocess.run(["rt", "version"], stdout=subprocess.PIPE, text=True, check=True).stdout) if shutil.which("rt") else []
+    here = (
+        KIT.findall(
+            subprocess.run(["rt", "version"], stdout=subprocess.PIPE, text=True, check=True).stdout
+        )
+        if shutil.which("rt")
+        else []
+    )
     if here and named != set(here):
-        print(f"README.md: the kit is {' and '.join(sorted(named))}, and `rt version` is {' '.join(here)}")
+        print(
+            f"README.md: the kit is {' and '.join(sorted(named))}, and `rt version` is "
+            f"{' '.join(here)}"
+        )
+
+
+def test_commands(top=TOP):
+    """Says of each file which test command it names, where that isn't one that is there and that
+    all name: how many files there are, and how many are wrong."""
+    named = {}
+    for name, words in TESTS.items():
+        with open(f"{top}/{name}", encoding="utf-8") as file:
+            named[name] = re.findall(rf"(?m)^{words}", file.read())
+    command = named[".ci/run"][:1]
+    is_there = command and os.access(f"{top}/{command[0]}", os.X_OK)
+    wrong = [name for name, found in named.items() if found != command or not is_there]
+    for name in wrong:
+        print(f"{name}: WRONG: the test command is {named[name]}, and that of .ci/run {command}")
+    return len(named), len(wrong)
 
 
 def commands(block):
@@ -186,7 +232,8 @@ def make_folder(folder):
 
 
 def try_document(name):
-    """Runs what a document shows: how many commands were tried, and how many print something else."""
+    """Runs what a document shows: how many commands were tried,
+    and how many print something else."""
     tried = wrong = 0
     with tempfile.TemporaryDirectory(prefix="texts-") as folder:
         make_folder(folder)
@@ -204,7 +251,14 @@ def try_document(name):
 
 def run_in(folder, words):
     """Runs words by the shell in a folder: its status, and what it printed."""
-    run = subprocess.run(["bash", "-c", words], cwd=folder, stdin=subprocess.DEVNULL, capture_output=True, timeout=LIMIT, check=False)
+    run = subprocess.run(
+        ["bash", "-c", words],
+        cwd=folder,
+        stdin=subprocess.DEVNULL,
+        capture_output=True,
+        timeout=LIMIT,
+        check=False,
+    )
     return run.returncode, run.stdout.decode("utf-8", "replace")
 
 
@@ -212,16 +266,26 @@ def try_help(command):
     """Runs the example with which a command's help begins: whether it ends well."""
     with tempfile.TemporaryDirectory(prefix="texts-") as folder:
         make_folder(folder)
-        heading, *lines = run_in(folder, f"./exchange {command} --help")[1].split("\n\n")[0].split("\n")
+        heading, *lines = (
+            run_in(folder, f"./exchange {command} --help")[1].split("\n\n")[0].split("\n")
+        )
         example = "\n".join(line for line in lines if line.startswith("  "))
-        is_well = heading.startswith("Example:") and f"./exchange {command}" in example and run_in(folder, example)[0] == 0
+        is_well = (
+            heading.startswith("Example:")
+            and f"./exchange {command}" in example
+            and run_in(folder, example)[0] == 0
+        )
         if not is_well:
-            print(f"WRONG: exchange {command} --help begins with an example that doesn't work: {example}")
+            print(
+                f"WRONG: exchange {command} --help begins with an example that doesn't work: "
+                f"{example}"
+            )
         return is_well
 
 
 def tell(names, trial, what, fault):
-    """Tries something in each document, and tells of it: how many were tried, and how many are wrong."""
+    """Tries something in each document, and tells of it: how many were tried,
+    and how many are wrong."""
     results = [trial(name) for name in names]
     tried, wrong = sum(it[0] for it in results), sum(it[1] for it in results)
     print(f"texts: {tried} {what} tried, {wrong} {fault}")
@@ -231,8 +295,8 @@ def tell(names, trial, what, fault):
 def main():
     names = sys.argv[1:] or documents()
     wrong = tell(names, try_links, "links", "lead nowhere")[1]
-    tell(names, try_columns, "lines", "are too long")
     compare_kits()
+    wrong += test_commands()[1]
     if not os.environ.get("EXCHANGE"):
         subprocess.run([f"{TOP}/exchange", "prove"], check=True)
     tried, differing = tell(names, try_document, "commands of documents", "print something else")

@@ -63,7 +63,8 @@ module _ (g : List Transfer) (k : ℕ) (f₀ : List (Option ℕ)) (t : ℕ) (p�
 
   -- ---- the next edge of the path wasn't met before
 
-  pub next_is_new : (f : List (Option ℕ)) (hand : ℕ) (e o : End) (c d w : ℕ) → IsOnPath g k f₀ t f hand e o c d → colour_at f w ≡ Some c → link_at g w e ≡ link_at g hand e → colour_at f₀ w ≡ Some c
+  pub next_is_new : (f : List (Option ℕ)) (hand : ℕ) (e o : End) (c d w : ℕ) → IsOnPath g k f₀ t f hand e o c d → colour_at f w ≡ Some c → link_at g w e
+      ≡ link_at g hand e → colour_at f₀ w ≡ Some c
   next_is_new f hand e o c d w h at_w same =
       let apart : w ≢ hand = differs f w hand c at_w h.out in
       elim (h.of_c w apart at_w) [
@@ -82,7 +83,8 @@ module _ (g : List Transfer) (k : ℕ) (f₀ : List (Option ℕ)) (t : ℕ) (p�
 
   -- ---- the path goes on: the edge in hand takes c, and the next edge, which had c there, is in hand and is to take d at its other end
 
-  pub path_goes_on : (f : List (Option ℕ)) (hand : ℕ) (e o : End) (c d w : ℕ) → IsOnPath g k f₀ t f hand e o c d → colour_at f w ≡ Some c → link_at g w e ≡ link_at g hand e → IsProper g k (set (set f w None) hand (Some c)) → IsOnPath g k f₀ t (set (set f w None) hand (Some c)) w o e d c
+  pub path_goes_on : (f : List (Option ℕ)) (hand : ℕ) (e o : End) (c d w : ℕ) → IsOnPath g k f₀ t f hand e o c d → colour_at f w ≡ Some c → link_at g w e
+      ≡ link_at g hand e → IsProper g k (set (set f w None) hand (Some c)) → IsOnPath g k f₀ t (set (set f w None) hand (Some c)) w o e d c
   path_goes_on f hand e o c d w h at_w same proper =
       let w_in : w < length f = some_within f w c at_w in
       let apart : w ≢ hand = differs f w hand c at_w h.out in
@@ -101,7 +103,8 @@ module _ (g : List Transfer) (k : ℕ) (f₀ : List (Option ℕ)) (t : ℕ) (p�
           | inl is ↦ absurd (apart is.0)
           | inr other ↦ other.1 ∙ get_or-set_same f w None None w_in
         ]);
-        c_free = free_from g now w d e (λ u at there. elim (from u d at) [ inl is ↦ ne is.1 | inr old ↦ not_free g f h.proper.sized hand u d e h.d_free old.2 (there ∙ same) ]);
+        c_free = free_from g now w d e
+            (λ u at there. elim (from u d at) [ inl is ↦ ne is.1 | inr old ↦ not_free g f h.proper.sized hand u d e h.d_free old.2 (there ∙ same) ]);
         d_free = free_from g now w c o (λ u at there. elim (from u c at) [
           | inl is ↦ not_free g f h.proper.sized hand w c o h.c_free at_w (sym there ∙ ap (λ v. link_at g v o) is.0)
           | inr old ↦ old.1 (same_transfer g k f u w c o h.proper old.2 at_w there)
@@ -113,7 +116,10 @@ module _ (g : List Transfer) (k : ℕ) (f₀ : List (Option ℕ)) (t : ℕ) (p�
           | inr old ↦ h.of_c u old.0 old.2
         ];
         placed = λ u out. elim (at_written (set f w None) hand u (Some c) hand_in) [
-          | inl is ↦ (λ _. elim h.last [ inl first ↦ inr (is.0 ∙ first.0) | inr was ↦ inl (subst IsSome (sym (ap (colour_at f₀) is.0 ∙ was)) refl) ], λ _. subst IsSome (sym is.1) refl)
+          | inl is ↦ (
+            λ _. elim h.last [ inl first ↦ inr (is.0 ∙ first.0) | inr was ↦ inl (subst IsSome (sym (ap (colour_at f₀) is.0 ∙ was)) refl) ],
+            λ _. subst IsSome (sym is.1) refl,
+          )
           | inr other ↦
               let same_now : colour_at now u ≡ colour_at f u = other.1 ∙ get_or-set_other f w u None None out in
               (λ p. (h.placed u other.0).0 (subst IsSome same_now p), λ q. subst IsSome (sym same_now) ((h.placed u other.0).1 q))
@@ -125,7 +131,10 @@ module _ (g : List Transfer) (k : ℕ) (f₀ : List (Option ℕ)) (t : ℕ) (p�
   pub path_ends : (f : List (Option ℕ)) (hand : ℕ) (e o : End) (c d : ℕ) → IsOnPath g k f₀ t f hand e o c d → PlacesJust f₀ (set f hand (Some c)) t
   path_ends f hand e o c d h = record {
     placed = λ u. elim (at_written f hand u (Some c) (rw h.proper.sized h.known)) [
-      | inl is ↦ (λ _. elim h.last [ inl first ↦ inr (is.0 ∙ first.0) | inr was ↦ inl (subst IsSome (sym (ap (colour_at f₀) is.0 ∙ was)) refl) ], λ _. subst IsSome (sym is.1) refl)
+      | inl is ↦ (
+        λ _. elim h.last [ inl first ↦ inr (is.0 ∙ first.0) | inr was ↦ inl (subst IsSome (sym (ap (colour_at f₀) is.0 ∙ was)) refl) ],
+        λ _. subst IsSome (sym is.1) refl,
+      )
       | inr other ↦ (λ p. (h.placed u other.0).0 (subst IsSome other.1 p), λ q. subst IsSome (sym other.1) ((h.placed u other.0).1 q))
     ];
   }

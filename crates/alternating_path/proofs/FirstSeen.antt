@@ -1,5 +1,6 @@
 -- The classes of a colouring, each where its first number is seen.
-use Rattle.std.proofs.Common.{◌≡◌, ◌≢◌, ℕ, ◌+◌, ◌<◌, ◌≤◌, ◌↔◌, cond, List, [], ◌∷◌, ◌++◌, length, get_or, set, All, Option, Some, None, IsSome, is_some, ◌⊎◌, refl, sym, ap, subst, ◌∙◌, arith, inl, inr}
+use Rattle.std.proofs.Common.{◌≡◌, ◌≢◌, ℕ, ◌+◌, ◌<◌, ◌≤◌, ◌↔◌, cond, List, [], ◌∷◌, ◌++◌, length, get_or, set, All, Option, Some, None, IsSome, is_some, ◌⊎◌, refl, sym, ap, subst, ◌∙◌, arith, inl}
+use Rattle.std.proofs.Common.{inr}
 use Rattle.std.specs.Prelude.{count_by, AllPairs, Contains}
 use Rattle.std.proofs.lemmas.Bool.{cases_lt, cases_eq, false≢true}
 use Rattle.std.proofs.lemmas.Option.{same_Some, none-some}
@@ -46,7 +47,8 @@ pub rise_all : (n : ℕ) (settings : List (List ℕ)) → All (All (λ u. u < n)
 rise_all n settings = All-weaker (All (λ u. u < n)) (All (λ u. u < n + 1)) (λ s. All-weaker (λ u. u < n) (λ u. u < n + 1) (λ u lt. omega arith) s) settings
 
 -- a number that isn't placed changes nothing
-pub passed_over : (f : List (Option ℕ)) (n : ℕ) (setting_of : List (Option ℕ)) (settings : List (List ℕ)) → Partial f n setting_of settings → colour_at f n ≡ None → Partial f (n + 1) setting_of settings
+pub passed_over : (f : List (Option ℕ)) (n : ℕ) (setting_of : List (Option ℕ)) (settings : List (List ℕ)) → Partial f n setting_of settings → colour_at f n
+    ≡ None → Partial f (n + 1) setting_of settings
 passed_over f n setting_of settings p out =
     let earlier : (u c : ℕ) → u < n + 1 → colour_at f u ≡ Some c → u < n = λ u c lt is. elim (cases_eq u n) [
       | inl same ↦ absurd (none-some c (sym out ∙ (ap (colour_at f) (sym same) ∙ is)))
@@ -55,7 +57,10 @@ passed_over f n setting_of settings p out =
     record {
       known = p.known;
       part = λ c k is. record {
-        just = λ u. (λ inside. let old = ((p.part c k is).just u).0 inside in (omega (arith, old.0), old.1), λ both. ((p.part c k is).just u).1 (earlier u c both.0 both.1, both.1));
+        just = λ u. (
+          λ inside. let old = ((p.part c k is).just u).0 inside in (omega (arith, old.0), old.1),
+          λ both. ((p.part c k is).just u).1 (earlier u c both.0 both.1, both.1),
+        );
       };
       owner = p.owner;
       seen = λ u c lt is. p.seen u c (earlier u c lt is) is;
@@ -68,7 +73,8 @@ passed_over f n setting_of settings p out =
       by_least = p.by_least;
     }
 
-module _ (f : List (Option ℕ)) (n c : ℕ) (setting_of : List (Option ℕ)) (settings : List (List ℕ)) (p : Partial f n setting_of settings) (is : colour_at f n ≡ Some c) where
+module _ (f : List (Option ℕ)) (n c : ℕ) (setting_of : List (Option ℕ)) (settings : List (List ℕ)) (p : Partial f n setting_of settings)
+    (is : colour_at f n ≡ Some c) where
   -- what holds of u, and how often it stands, once n stands too
   once_more : (new : List (List ℕ)) → ((u : ℕ) → times u new ≡ times u settings + one u n) → (u : ℕ) → u < n + 1 → HasColour f u → times u new ≡ 1
   once_more new more u lt placed = elim (cases_eq u n) [
@@ -126,7 +132,9 @@ module _ (f : List (Option ℕ)) (n c : ℕ) (setting_of : List (Option ℕ)) (s
     same_least i = elim (cases_eq i k) [
       | inl same ↦
           let some : 0 < length (get_or settings k []) = All-get_or (λ s. 0 < length s) settings k [] k_in p.none_empty in
-          ap (λ j. get_or (get_or (set settings k (get_or settings k [] ++ n ∷ [])) j []) 0 0) same ∙ (ap (λ (s : List ℕ). get_or s 0 0) (get_or-set_same settings k (get_or settings k [] ++ n ∷ []) [] k_in) ∙ (get_or_append_left (get_or settings k []) (n ∷ []) 0 0 some ∙ ap (λ j. get_or (get_or settings j []) 0 0) (sym same)))
+          ap (λ j. get_or (get_or (set settings k (get_or settings k [] ++ n ∷ [])) j []) 0 0) same
+          ∙ (ap (λ (s : List ℕ). get_or s 0 0) (get_or-set_same settings k (get_or settings k [] ++ n ∷ []) [] k_in)
+          ∙ (get_or_append_left (get_or settings k []) (n ∷ []) 0 0 some ∙ ap (λ j. get_or (get_or settings j []) 0 0) (sym same)))
       | inr other ↦ ap (λ (s : List ℕ). get_or s 0 0) (get_or-set_other settings k i (get_or settings k [] ++ n ∷ []) [] other)
     ]
 
@@ -139,7 +147,8 @@ module _ (f : List (Option ℕ)) (n c : ℕ) (setting_of : List (Option ℕ)) (s
           part = λ d j at_j. elim (cases_eq j k) [
             | inl same ↦
                 let dc : d ≡ c = one_colour d (at_j ∙ ap Some same) in
-                subst (λ x. IsClassBelow f (n + 1) d (get_or (set settings k (get_or settings k [] ++ n ∷ [])) x [])) (sym same) (rw (get_or-set_same settings k (get_or settings k [] ++ n ∷ []) [] k_in) (rw dc (next_part (get_or settings k []) (p.part c k at))))
+                subst (λ x. IsClassBelow f (n + 1) d (get_or (set settings k (get_or settings k [] ++ n ∷ [])) x [])) (sym same)
+                (rw (get_or-set_same settings k (get_or settings k [] ++ n ∷ []) [] k_in) (rw dc (next_part (get_or settings k []) (p.part c k at))))
             | inr other ↦
                 let away : d ≢ c = λ dc. other (same_Some j k (sym at_j ∙ (ap (λ x. get_or setting_of x None) dc ∙ at))) in
                 rw (get_or-set_other settings k j (get_or settings k [] ++ n ∷ []) [] other) (other_part d (get_or settings j []) away (p.part d j at_j))
@@ -152,20 +161,29 @@ module _ (f : List (Option ℕ)) (n c : ℕ) (setting_of : List (Option ℕ)) (s
           count = sized ∙ p.count;
           once = once_more (set settings k (get_or settings k [] ++ n ∷ [])) (λ u. times_into u n k settings k_in);
           not_yet = not_yet_more (set settings k (get_or settings k [] ++ n ∷ [])) (λ u. times_into u n k settings k_in);
-          none_empty = All-set (λ s. 0 < length s) settings k (get_or settings k [] ++ n ∷ []) (omega (arith, length_push (get_or settings k []) n)) p.none_empty;
+          none_empty = All-set (λ s. 0 < length s) settings k (get_or settings k [] ++ n ∷ []) (omega (arith, length_push (get_or settings k []) n))
+              p.none_empty;
           ascending = All-set (AllPairs (λ t u. t < u)) settings k (get_or settings k [] ++ n ∷ [])
-              (all_pairs_push (λ t u. t < u) (get_or settings k []) n (All-get_or (AllPairs (λ t u. t < u)) settings k [] k_in p.ascending) (All-get_or (All (λ u. u < n)) settings k [] k_in p.below)) p.ascending;
+              (all_pairs_push (λ t u. t < u) (get_or settings k []) n (All-get_or (AllPairs (λ t u. t < u)) settings k [] k_in p.ascending)
+              (All-get_or (All (λ u. u < n)) settings k [] k_in p.below)) p.ascending;
           below = All-set (All (λ u. u < n + 1)) settings k (get_or settings k [] ++ n ∷ [])
-              (All-push (λ u. u < n + 1) (get_or settings k []) n (All-get_or (All (λ u. u < n + 1)) settings k [] k_in (rise_all n settings p.below)) (omega arith)) (rise_all n settings p.below);
+              (All-push (λ u. u < n + 1) (get_or settings k []) n (All-get_or (All (λ u. u < n + 1)) settings k [] k_in (rise_all n settings p.below))
+              (omega arith)) (rise_all n settings p.below);
           by_least = λ i j less lt. rw (same_least i, same_least j) (p.by_least i j less (rw (← sized) lt));
         }
 
   -- ---- n is the first of its colour
 
   module _ (none : get_or setting_of c None ≡ None) (c_in : c < length setting_of) where
-    at_new : (d k : ℕ) → get_or (set setting_of c (Some (length settings))) d None ≡ Some k → ((d ≡ c) × (k ≡ length settings)) ⊎ ((d ≢ c) × (get_or setting_of d None ≡ Some k))
+    at_new : (d k : ℕ) → get_or (set setting_of c (Some (length settings))) d None ≡ Some k → ((d ≡ c) × (k ≡ length settings))
+        ⊎ ((d ≢ c) × (get_or setting_of d None ≡ Some k))
     at_new d k at_d = elim (cases_eq d c) [
-      | inl same ↦ inl (same, same_Some k (length settings) (sym at_d ∙ (ap (λ x. get_or (set setting_of c (Some (length settings))) x None) same ∙ get_or-set_same setting_of c (Some (length settings)) None c_in)))
+      | inl same ↦ inl (
+        same,
+        same_Some k (length settings)
+            (sym at_d ∙ (ap (λ x. get_or (set setting_of c (Some (length settings))) x None) same ∙ get_or-set_same setting_of c (Some (length settings)) None
+            c_in)),
+      )
       | inr other ↦ inr (other, sym (get_or-set_other setting_of c d (Some (length settings)) None other) ∙ at_d)
     ]
 
@@ -194,7 +212,8 @@ module _ (f : List (Option ℕ)) (n c : ℕ) (setting_of : List (Option ℕ)) (s
     least_before i lt = ap (λ (s : List ℕ). get_or s 0 0) (get_or_append_left settings ((n ∷ []) ∷ []) [] i lt)
 
     least_below : (i : ℕ) → i < length settings → least settings i < n
-    least_below i lt = All-get_or (λ u. u < n) (get_or settings i []) 0 0 (All-get_or (λ s. 0 < length s) settings i [] lt p.none_empty) (All-get_or (All (λ u. u < n)) settings i [] lt p.below)
+    least_below i lt = All-get_or (λ u. u < n) (get_or settings i []) 0 0 (All-get_or (λ s. 0 < length s) settings i [] lt p.none_empty)
+        (All-get_or (All (λ u. u < n)) settings i [] lt p.below)
 
     least_last : least (settings ++ (n ∷ []) ∷ []) (length settings) ≡ n
     least_last = ap (λ (s : List ℕ). get_or s 0 0) (get_or_push settings (n ∷ []) [] (length settings) refl)
@@ -209,7 +228,8 @@ module _ (f : List (Option ℕ)) (n c : ℕ) (setting_of : List (Option ℕ)) (s
           ];
           part = λ d k at_d. elim (at_new d k at_d) [
             | inl new ↦
-                subst (λ x. IsClassBelow f (n + 1) d (get_or (settings ++ (n ∷ []) ∷ []) x [])) (sym new.1) (rw (get_or_push settings (n ∷ []) [] (length settings) refl) (rw new.0 alone_part))
+                subst (λ x. IsClassBelow f (n + 1) d (get_or (settings ++ (n ∷ []) ∷ []) x [])) (sym new.1)
+                (rw (get_or_push settings (n ∷ []) [] (length settings) refl) (rw new.0 alone_part))
             | inr old ↦ rw (get_or_append_left settings ((n ∷ []) ∷ []) [] k (p.known d k old.1)) (other_part d (get_or settings k []) old.0 (p.part d k old.1))
           ];
           owner = λ k lt. elim (cases_lt k (length settings)) [
@@ -222,7 +242,8 @@ module _ (f : List (Option ℕ)) (n c : ℕ) (setting_of : List (Option ℕ)) (s
           seen = λ u d lt at_u. elim (cases_eq u n) [
             | inl same ↦
                 let cd : c ≡ d = same_Some c d (sym is ∙ (ap (colour_at f) (sym same) ∙ at_u)) in
-                subst (λ x. IsSome (get_or (set setting_of c (Some (length settings))) x None)) cd (ap is_some (get_or-set_same setting_of c (Some (length settings)) None c_in))
+                subst (λ x. IsSome (get_or (set setting_of c (Some (length settings))) x None)) cd
+                (ap is_some (get_or-set_same setting_of c (Some (length settings)) None c_in))
             | inr other ↦ still d (p.seen u d (omega arith) at_u)
           ];
           count =
@@ -232,7 +253,8 @@ module _ (f : List (Option ℕ)) (n c : ℕ) (setting_of : List (Option ℕ)) (s
           not_yet = not_yet_more (settings ++ (n ∷ []) ∷ []) (λ u. times_alone u n settings);
           none_empty = All-push (λ s. 0 < length s) settings (n ∷ []) p.none_empty (omega arith);
           ascending = All-push (AllPairs (λ t u. t < u)) settings (n ∷ []) p.ascending (λ i j d less inside. absurd (omega arith));
-          below = All-push (All (λ u. u < n + 1)) settings (n ∷ []) (rise_all n settings p.below) (All-push (λ u. u < n + 1) [] n (λ k d lt. absurd (omega arith)) (omega arith));
+          below = All-push (All (λ u. u < n + 1)) settings (n ∷ []) (rise_all n settings p.below)
+              (All-push (λ u. u < n + 1) [] n (λ k d lt. absurd (omega arith)) (omega arith));
           by_least = λ i j less lt. elim (cases_lt j (length settings)) [
             | inl within ↦ rw (least_before i (omega arith), least_before j within) (p.by_least i j less within)
             | inr last ↦
@@ -267,7 +289,8 @@ module _ (f : List (Option ℕ)) (setting_of : List (Option ℕ)) (settings : Li
 
 -- ---- where all transfers are placed, the classes are a schedule
 
-pub is_schedule : (batch : List Transfer) (k : ℕ) (f : List (Option ℕ)) (settings : List (List ℕ)) → IsProper batch k f → AreClassesOf f settings → ((t : ℕ) → HasColour f t → times t settings ≡ 1) → ((t : ℕ) → t < length batch → HasColour f t) → IsScheduleOf batch settings
+pub is_schedule : (batch : List Transfer) (k : ℕ) (f : List (Option ℕ)) (settings : List (List ℕ)) → IsProper batch k f → AreClassesOf f settings
+    → ((t : ℕ) → HasColour f t → times t settings ≡ 1) → ((t : ℕ) → t < length batch → HasColour f t) → IsScheduleOf batch settings
 is_schedule batch k f settings proper classes once all = record {
   matchings = All-from_get_or (IsMatching batch) settings [] (λ i i_in.
       let class = All-get_or (IsClassOf f) settings i [] i_in classes.classes in
@@ -276,7 +299,8 @@ is_schedule batch k f settings proper classes once all = record {
       let a_in : a < length (get_or settings i []) = omega arith in
       let lt : get_or (get_or settings i []) a d < get_or (get_or settings i []) b d = ascending a b d less b_in in
       let apart : get_or (get_or settings i []) a d ≢ get_or (get_or settings i []) b d = λ e. omega arith in
-      proper.apart (get_or (get_or settings i []) a d) (get_or (get_or settings i []) b d) class.c apart ((class.just _).0 (Contains-get_or (get_or settings i []) a d a_in)) ((class.just _).0 (Contains-get_or (get_or settings i []) b d b_in)));
+      proper.apart (get_or (get_or settings i []) a d) (get_or (get_or settings i []) b d) class.c apart
+      ((class.just _).0 (Contains-get_or (get_or settings i []) a d a_in)) ((class.just _).0 (Contains-get_or (get_or settings i []) b d b_in)));
   once = λ t lt. once t (all t lt);
   no_other = All-from_get_or (All (λ t. t < length batch)) settings [] (λ i i_in.
       let class = All-get_or (IsClassOf f) settings i [] i_in classes.classes in

@@ -1,5 +1,6 @@
 -- A link has as many placed transfers as colours that are taken there.
-use Rattle.std.proofs.Common.{◌≡◌, ◌≢◌, ℕ, zero, suc, ◌+◌, ◌*◌, ◌<◌, ◌≤◌, inl, inr, List, length, Option, Some, None, Bool, true, false, is_some, IsSome, ◌&&◌, ltb, cond, refl, sym, ap, ◌∙◌, subst, arith, eq-eqb}
+use Rattle.std.proofs.Common.{◌≡◌, ◌≢◌, ℕ, zero, suc, ◌+◌, ◌*◌, ◌<◌, ◌≤◌, inl, inr, List, length, Option, Some, None, Bool, true, false, is_some, IsSome, ◌&&◌, ltb, cond, refl, sym, ap, ◌∙◌, subst}
+use Rattle.std.proofs.Common.{arith, eq-eqb}
 use Rattle.std.proofs.lemmas.Bool.{cases_eq, cases_Bool, eqb-true, false≢true}
 use Rattle.std.specs.Prelude.{count_by}
 use Rattle.std.proofs.Common.{add-one, take}
@@ -35,7 +36,8 @@ count_below_all zero p all = refl
 count_below_all (suc n) p all = rw (all n (omega arith)) (omega (arith, count_below_all n p (λ i h. all i (omega arith))))
 
 -- the tests agree but at m, where only q passes
-pub count_below_more : (n m : ℕ) (p q : ℕ → Bool) → m < n → p m ≡ false → q m ≡ true → ((i : ℕ) → i < n → i ≢ m → p i ≡ q i) → count_below n q ≡ count_below n p + 1
+pub count_below_more : (n m : ℕ) (p q : ℕ → Bool) → m < n → p m ≡ false → q m ≡ true → ((i : ℕ) → i < n → i ≢ m → p i ≡ q i) → count_below n q
+    ≡ count_below n p + 1
 count_below_more zero m p q h off on same = absurd (omega arith)
 count_below_more (suc n) m p q h off on same = elim (cases_eq n m) [
   | inl here ↦
@@ -51,13 +53,18 @@ count_below_more (suc n) m p q h off on same = elim (cases_eq n m) [
 
 pub count_below_le : (n : ℕ) (p : ℕ → Bool) → count_below n p ≤ n
 count_below_le zero p = omega arith
-count_below_le (suc n) p = elim (p n) as (λ b. cond b 1 0 + count_below n p ≤ suc n) [ true ↦ omega (arith, count_below_le n p) | false ↦ omega (arith, count_below_le n p) ]
+count_below_le (suc n) p = elim (p n) as (λ b. cond b 1 0 + count_below n p ≤ suc n) [
+  | true ↦ omega (arith, count_below_le n p)
+  | false ↦
+      omega (arith, count_below_le n p)
+]
 
 pub count_below_lt : (n m : ℕ) (p : ℕ → Bool) → m < n → p m ≡ false → count_below n p < n
 count_below_lt zero m p h off = absurd (omega arith)
 count_below_lt (suc n) m p h off = elim (cases_eq n m) [
   | inl here ↦ let off_n : p n ≡ false = ap p here ∙ off in rw off_n (omega (arith, count_below_le n p))
-  | inr away ↦ let rest = count_below_lt n m p (omega arith) off in elim (p n) as (λ b. cond b 1 0 + count_below n p < suc n) [ true ↦ omega (arith, rest) | false ↦ omega (arith, rest) ]
+  | inr away ↦ let rest = count_below_lt n m p (omega arith) off in elim (p n) as (λ b. cond b 1 0 + count_below n p < suc n)
+      [ true ↦ omega (arith, rest) | false ↦ omega (arith, rest) ]
 ]
 
 -- as many pass p as q at most, where p implies q, and fewer where one number passes q alone
@@ -65,7 +72,8 @@ count_below_weaker : (n : ℕ) (p q : ℕ → Bool) → ((i : ℕ) → p i ≡ t
 count_below_weaker zero p q weaker = omega arith
 count_below_weaker (suc n) p q weaker =
     let rest = count_below_weaker n p q weaker in
-    let go : (a b : Bool) → (a ≡ true → b ≡ true) → cond a 1 0 + count_below n p ≤ cond b 1 0 + count_below n q = λ a b. elim a as (λ a. (a ≡ true → b ≡ true) → cond a 1 0 + count_below n p ≤ cond b 1 0 + count_below n q) [
+    let go : (a b : Bool) → (a ≡ true → b ≡ true) → cond a 1 0 + count_below n p ≤ cond b 1 0 + count_below n q =
+    λ a b. elim a as (λ a. (a ≡ true → b ≡ true) → cond a 1 0 + count_below n p ≤ cond b 1 0 + count_below n q) [
       | true ↦ λ h. rw (h refl) (omega (arith, rest))
       | false ↦ λ h. elim b as (λ b. 0 + count_below n p ≤ cond b 1 0 + count_below n q) [ true ↦ omega (arith, rest) | false ↦ omega (arith, rest) ]
     ] in
@@ -80,7 +88,8 @@ fewer (suc n) m p q m_in weaker on off = elim (cases_eq n m) [
       rw (off_n, on_n) (omega (arith, count_below_weaker n p q weaker))
   | inr away ↦
       let rest = fewer n m p q (omega arith) weaker on off in
-      let go : (a b : Bool) → (a ≡ true → b ≡ true) → cond a 1 0 + count_below n p < cond b 1 0 + count_below n q = λ a b. elim a as (λ a. (a ≡ true → b ≡ true) → cond a 1 0 + count_below n p < cond b 1 0 + count_below n q) [
+      let go : (a b : Bool) → (a ≡ true → b ≡ true) → cond a 1 0 + count_below n p < cond b 1 0 + count_below n q =
+      λ a b. elim a as (λ a. (a ≡ true → b ≡ true) → cond a 1 0 + count_below n p < cond b 1 0 + count_below n q) [
         | true ↦ λ h. rw (h refl) (omega (arith, rest))
         | false ↦ λ h. elim b as (λ b. 0 + count_below n p < cond b 1 0 + count_below n q) [ true ↦ omega (arith, rest) | false ↦ omega (arith, rest) ]
       ] in
@@ -104,27 +113,33 @@ among m (Some t) = ltb t m
 
 -- p and q are each other's inverse, from the numbers below n to those below k: as many have one as
 -- the other
-module _ (n k : ℕ) (p q : ℕ → Option ℕ) (there : (t c : ℕ) → t < n → p t ≡ Some c → (c < k) × (q c ≡ Some t)) (back : (c t : ℕ) → c < k → q c ≡ Some t → (t < n) × (p t ≡ Some c)) where
+module _ (n k : ℕ) (p q : ℕ → Option ℕ) (there : (t c : ℕ) → t < n → p t ≡ Some c → (c < k) × (q c ≡ Some t)) (back : (c t : ℕ) → c < k → q c ≡ Some t → (t < n)
+    × (p t ≡ Some c)) where
   among-same : (m : ℕ) (o : Option ℕ) → o ≢ Some m → among m o ≡ among (suc m) o
   among-same m None ne = refl
   among-same m (Some t) ne = let away : t ≢ m = λ e. ne (ap Some e) in grind (arith, nat_tests)
 
   matched_upto : (m : ℕ) → m ≤ n → count_below m (λ t. is_some (p t)) ≡ count_below k (λ c. among m (q c))
-  matched_upto zero h = sym (count_below_none k (λ c. among zero (q c)) (λ c _. elim (q c) as (λ o. among zero o ≡ false) [ None ↦ refl | Some t ↦ grind (arith, nat_tests) ]))
+  matched_upto zero h =
+      sym (count_below_none k (λ c. among zero (q c)) (λ c _. elim (q c) as (λ o. among zero o ≡ false) [ None ↦ refl | Some t ↦ grind (arith, nat_tests) ]))
   matched_upto (suc m) h =
       let rest = matched_upto m (omega arith) in
-      let go : (o : Option ℕ) → p m ≡ o → cond (is_some o) 1 0 + count_below m (λ t. is_some (p t)) ≡ count_below k (λ c. among (suc m) (q c)) = λ o. elim o as (λ o. p m ≡ o → cond (is_some o) 1 0 + count_below m (λ t. is_some (p t)) ≡ count_below k (λ c. among (suc m) (q c))) [
-        | None ↦ λ at. let same = count_below_same k (λ c. among m (q c)) (λ c. among (suc m) (q c)) (λ c c_in. among-same m (q c) (λ e. none-some c (sym at ∙ (back c m c_in e).1))) in omega arith
+      let go : (o : Option ℕ) → p m ≡ o → cond (is_some o) 1 0 + count_below m (λ t. is_some (p t)) ≡ count_below k (λ c. among (suc m) (q c)) =
+      λ o. elim o as (λ o. p m ≡ o → cond (is_some o) 1 0 + count_below m (λ t. is_some (p t)) ≡ count_below k (λ c. among (suc m) (q c))) [
+        | None ↦ λ at. let same = count_below_same k (λ c. among m (q c)) (λ c. among (suc m) (q c))
+            (λ c c_in. among-same m (q c) (λ e. none-some c (sym at ∙ (back c m c_in e).1))) in omega arith
         | Some d ↦ λ at.
             let held = there m d (omega arith) at in
-            let more = count_below_more k d (λ c. among m (q c)) (λ c. among (suc m) (q c)) held.0 (rw held.1 (grind (arith, nat_tests))) (rw held.1 (grind (arith, nat_tests))) (λ c c_in ne. among-same m (q c) (λ e. ne (same_Some c d (sym (back c m c_in e).1 ∙ at)))) in
+            let more = count_below_more k d (λ c. among m (q c)) (λ c. among (suc m) (q c)) held.0 (rw held.1 (grind (arith, nat_tests)))
+            (rw held.1 (grind (arith, nat_tests))) (λ c c_in ne. among-same m (q c) (λ e. ne (same_Some c d (sym (back c m c_in e).1 ∙ at)))) in
             omega arith
       ] in
       go (p m) refl
 
   pub as_many : count_below n (λ t. is_some (p t)) ≡ count_below k (λ c. is_some (q c))
   as_many = matched_upto n (omega arith) ∙ count_below_same k (λ c. among n (q c)) (λ c. is_some (q c)) (λ c c_in.
-      let go : (o : Option ℕ) → q c ≡ o → among n o ≡ is_some o = λ o. elim o as (λ o. q c ≡ o → among n o ≡ is_some o) [ None ↦ λ _. refl | Some t ↦ λ at. let h = (back c t c_in at).0 in grind (arith, nat_tests) ] in
+      let go : (o : Option ℕ) → q c ≡ o → among n o ≡ is_some o = λ o. elim o as (λ o. q c ≡ o → among n o ≡ is_some o)
+      [ None ↦ λ _. refl | Some t ↦ λ at. let h = (back c t c_in at).0 in grind (arith, nat_tests) ] in
       go (q c) refl)
 
 -- ---- the transfers that use a link
@@ -170,7 +185,8 @@ module _ (g : List Transfer) (k : ℕ) (f h : List (Option ℕ)) (x : AreCellsOf
   placed_uses-taken =
       let link = link_at g t e in
       let p : ℕ → Option ℕ = λ u. colour_if (uses_link g link u) (colour_at f u) in
-      let tests = count_below_same (length g) (λ u. uses_link g link u && is_some (colour_at f u)) (λ u. is_some (p u)) (λ u _. elim (uses_link g link u) as (λ b. (b && is_some (colour_at f u)) ≡ is_some (cond b (colour_at f u) None)) [ true ↦ refl | false ↦ refl ]) in
+      let tests = count_below_same (length g) (λ u. uses_link g link u && is_some (colour_at f u)) (λ u. is_some (p u))
+      (λ u _. elim (uses_link g link u) as (λ b. (b && is_some (colour_at f u)) ≡ is_some (cond b (colour_at f u) None)) [ true ↦ refl | false ↦ refl ]) in
       tests ∙ as_many (length g) k p (λ c. holder_at h c (place_at g t e))
       (λ u c u_in at.
       let both = cond_none (uses_link g link u) (colour_at f u) c at in
@@ -203,8 +219,10 @@ counted_upto p g (suc n) le =
     let lt : n < length g = omega arith in
     let rest = counted_upto p g n (omega arith) in
     elim (cases_Bool (p (transfer_at g n))) [
-      | inl yes' ↦ let more : count_by p (take (suc n) g) ≡ count_by p (take n g) + 1 = rw (add-one n) at (count_by_more_yes p g n no_transfer lt yes') in rw (yes', more) (omega (arith, rest))
-      | inr no' ↦ let same : count_by p (take (suc n) g) ≡ count_by p (take n g) = rw (add-one n) at (count_by_more_no p g n no_transfer lt no') in rw (no', same) (omega (arith, rest))
+      | inl yes' ↦ let more : count_by p (take (suc n) g) ≡ count_by p (take n g) + 1 = rw (add-one n)
+          at (count_by_more_yes p g n no_transfer lt yes') in rw (yes', more) (omega (arith, rest))
+      | inr no' ↦ let same : count_by p (take (suc n) g) ≡ count_by p (take n g) = rw (add-one n)
+          at (count_by_more_no p g n no_transfer lt no') in rw (no', same) (omega (arith, rest))
     ]
 
 uses-counted : (g : List Transfer) (link : Link) → count_below (length g) (uses_link g link) ≡ uses g link
@@ -216,5 +234,6 @@ uses-counted g link =
 pub room : (g : List Transfer) (f : List (Option ℕ)) (t : ℕ) (link : Link) → Uses g t link → colour_at f t ≡ None → placed_uses g f link < uses g link
 unfolding placed_uses
 room g f t link used out =
-    let less = fewer (length g) t (λ u. uses_link g link u && is_some (colour_at f u)) (uses_link g link) (uses_within g t link used) (λ u both. (and_true (uses_link g link u) _ both).0) (uses_yes g t link used) (rw out (and_false (uses_link g link t))) in
+    let less = fewer (length g) t (λ u. uses_link g link u && is_some (colour_at f u)) (uses_link g link) (uses_within g t link used)
+    (λ u both. (and_true (uses_link g link u) _ both).0) (uses_yes g t link used) (rw out (and_false (uses_link g link t))) in
     omega (arith, less, uses-counted g link)

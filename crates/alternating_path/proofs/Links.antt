@@ -70,14 +70,18 @@ module _ (g : List Transfer) (f : List (Option ℕ)) (sized : length f ≡ lengt
   pub not_free : (t u c : ℕ) (e : End) → IsFree g f (link_at g t e) c → colour_at f u ≡ Some c → link_at g u e ≡ link_at g t e → ⊥
   not_free t u c e free at same = free.none u at (subst (λ (l : Link). Uses g u l) same (uses_placed u c e at))
 
-pub free_from : (g : List Transfer) (f : List (Option ℕ)) (t c : ℕ) (e : End) → ((u : ℕ) → colour_at f u ≡ Some c → link_at g u e ≡ link_at g t e → ⊥) → IsFree g f (link_at g t e) c
+pub free_from : (g : List Transfer) (f : List (Option ℕ)) (t c : ℕ) (e : End) → ((u : ℕ) → colour_at f u ≡ Some c → link_at g u e ≡ link_at g t e → ⊥)
+    → IsFree g f (link_at g t e) c
 free_from g f t c e none = record { none = λ u at uses. none u at (uses_same_end g t u e uses) }
 
 -- two transfers of one colour that share a link are one
-pub same_transfer : (g : List Transfer) (k : ℕ) (f : List (Option ℕ)) (t u c : ℕ) (e : End) → IsProper g k f → colour_at f t ≡ Some c → colour_at f u ≡ Some c → link_at g t e ≡ link_at g u e → t ≡ u
+pub same_transfer : (g : List Transfer) (k : ℕ) (f : List (Option ℕ)) (t u c : ℕ) (e : End) → IsProper g k f → colour_at f t ≡ Some c → colour_at f u ≡ Some c
+    → link_at g t e ≡ link_at g u e → t ≡ u
 same_transfer g k f t u c e p at_t at_u same = elim (cases_eq t u) [
   | inl is ↦ is
-  | inr other ↦ absurd ((p.apart t u c other at_t at_u).none_common (link_at g t e) (uses_placed g f p.sized t c e at_t) (subst (λ (l : Link). Uses g u l) (sym same) (uses_placed g f p.sized u c e at_u)))
+  | inr other ↦
+      absurd ((p.apart t u c other at_t at_u).none_common (link_at g t e) (uses_placed g f p.sized t c e at_t)
+      (subst (λ (l : Link). Uses g u l) (sym same) (uses_placed g f p.sized u c e at_u)))
 ]
 
 -- ---- places in a row
@@ -85,7 +89,8 @@ same_transfer g k f t u c e p at_t at_u same = elim (cases_eq t u) [
 low : (g : List Transfer) → IsBatch g → (t : ℕ) → ((transfer_at g t).initiator < MAX_MODULES) × ((transfer_at g t).responder < MAX_MODULES)
 low g batch t = elim (cases_lt t (length g)) [
   | inl within ↦ (batch.within t no_transfer within).0
-  | inr past ↦ let P : Transfer → Type 0 = λ x. (x.initiator < MAX_MODULES) × (x.responder < MAX_MODULES) in subst P (sym (get_or_past g t no_transfer past)) (omega arith, omega arith)
+  | inr past ↦ let P : Transfer → Type 0 = λ x. (x.initiator < MAX_MODULES) × (x.responder < MAX_MODULES) in subst P (sym (get_or_past g t no_transfer past))
+      (omega arith, omega arith)
 ]
 
 pub place_low : (g : List Transfer) (t : ℕ) (e : End) → IsBatch g → place_at g t e < LINKS
@@ -114,17 +119,21 @@ same_end g t u Three Three batch same = refl
 pub same_link : (g : List Transfer) (t u : ℕ) (e : End) → place_at g t e ≡ place_at g u e → link_at g t e ≡ link_at g u e
 unfolding place_at link_at
 same_link g t u Zero same = ap (λ (m : ℕ). let l : Link = record { end = Zero; «module» = m } in l) same
-same_link g t u Three same = let m : (transfer_at g t).responder ≡ (transfer_at g u).responder = omega arith in ap (λ (m : ℕ). let l : Link = record { end = Three; «module» = m } in l) m
+same_link g t u Three same = let m : (transfer_at g t).responder ≡ (transfer_at g u).responder =
+    omega arith in ap (λ (m : ℕ). let l : Link = record { end = Three; «module» = m } in l) m
 
 pub place-link : (g : List Transfer) (t u : ℕ) (e : End) → link_at g t e ≡ link_at g u e → place_at g t e ≡ place_at g u e
 unfolding place_at
 place-link g t u e same = ap link_index same
 
 -- the places of the two links that a transfer uses
-pub ends_places : (g : List Transfer) (t : ℕ) (r : Link × Link) → t < length g → option_map (λ (x : Transfer). let p : Link × Link = (start_link x, answer_link x) in p) (slice_get g t) ≡ Some r → (link_index r.0 ≡ place_at g t Zero) × (link_index r.1 ≡ place_at g t Three)
+pub ends_places : (g : List Transfer) (t : ℕ) (r : Link × Link) → t < length g
+    → option_map (λ (x : Transfer). let p : Link × Link = (start_link x, answer_link x) in p) (slice_get g t) ≡ Some r → (link_index r.0 ≡ place_at g t Zero)
+    × (link_index r.1 ≡ place_at g t Three)
 unfolding place_at link_at
 ends_places g t r within is =
     let pair : Link × Link = (start_link (transfer_at g t), answer_link (transfer_at g t)) in
-    let there : ◌≡◌ {A = Option (Link × Link)} (Some pair) (Some r) = sym (ap (option_map (λ (x : Transfer). let p : Link × Link = (start_link x, answer_link x) in p)) (slice_get-get_or g t no_transfer within)) ∙ is in
+    let there : ◌≡◌ {A = Option (Link × Link)} (Some pair) (Some r) =
+    sym (ap (option_map (λ (x : Transfer). let p : Link × Link = (start_link x, answer_link x) in p)) (slice_get-get_or g t no_transfer within)) ∙ is in
     let same : pair ≡ r = same_Some pair r there in
     (ap (λ (p : Link × Link). link_index p.0) (sym same), ap (λ (p : Link × Link). link_index p.1) (sym same))

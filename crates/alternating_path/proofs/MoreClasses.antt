@@ -1,5 +1,6 @@
 -- A table with one colour more, in which the members of a class are placed one after the other.
-use Rattle.std.proofs.Common.{◌≡◌, ◌≢◌, ℕ, ◌+◌, ◌*◌, ◌-◌, ◌<◌, ◌⊎◌, inl, inr, List, [], ◌∷◌, ◌++◌, length, get_or, take, set, replicate, Option, Some, None, IsSome, All, Result, Ok, Err, IfOk, refl, sym, ap, ◌∙◌, subst, arith}
+use Rattle.std.proofs.Common.{◌≡◌, ◌≢◌, ℕ, ◌+◌, ◌*◌, ◌-◌, ◌<◌, ◌⊎◌, inl, inr, List, [], ◌∷◌, ◌++◌, length, get_or, take, set, replicate, Option, Some, None, IsSome, All, Result, Ok, Err, IfOk, refl}
+use Rattle.std.proofs.Common.{sym, ap, ◌∙◌, subst, arith}
 use Rattle.std.specs.Prelude.{Contains}
 use Rattle.std.proofs.lemmas.List.{length-append, length-replicate, length-take, take_more, get_or-take, get_or_default, get_or_append_left, get_or-append_right}
 use Rattle.std.proofs.lemmas.List.Elements.{Contains-push, Contains-push_cases, Contains-append_left}
@@ -28,7 +29,8 @@ module _ (g : List Transfer) (k : ℕ) (f h : List (Option ℕ)) (x : AreCellsOf
   row_of : (c l : ℕ) → l < LINKS → ((c < k) × (holder_at now c l ≡ holder_at h c l)) ⊎ (holder_at now c l ≡ None)
   row_of c l l_in = elim (cases_lt c k) [
     | inl c_in ↦ inl (c_in, get_or_append_left h (replicate LINKS None) None (c * LINKS + l) (omega (arith, x.rows, c_in, l_in)))
-    | inr past ↦ inr (get_or-append_right h (replicate LINKS None) (k * LINKS) (c * LINKS + l) None x.rows (omega (arith, past)) ∙ nothing_at LINKS (c * LINKS + l - k * LINKS))
+    | inr past ↦ inr (get_or-append_right h (replicate LINKS None) (k * LINKS) (c * LINKS + l) None x.rows (omega (arith, past))
+        ∙ nothing_at LINKS (c * LINKS + l - k * LINKS))
   ]
 
   pub more_cells : AreCellsOf g (k + 1) f now
@@ -59,7 +61,9 @@ none_given old members = record {
   inserted = refl;
 }
 
-module _ (old : Colouring) (members : List ℕ) (n : ℕ) (s : Colouring) (known : All (λ t. t < length old.batch) members) (matching : IsMatching old.batch members) (out : All (λ t. colour_at old.colour t ≡ None) members) (n_in : n < length members) (was_proper : IsProperTable old) (proper : IsProperTable s) (x : HasClassMore old (take n members) s) where
+module _ (old : Colouring) (members : List ℕ) (n : ℕ) (s : Colouring) (known : All (λ t. t < length old.batch) members)
+    (matching : IsMatching old.batch members) (out : All (λ t. colour_at old.colour t ≡ None) members) (n_in : n < length members)
+    (was_proper : IsProperTable old) (proper : IsProperTable s) (x : HasClassMore old (take n members) s) where
   abbrev u : ℕ
   u = get_or members n 0
 
@@ -97,7 +101,8 @@ module _ (old : Colouring) (members : List ℕ) (n : ℕ) (s : Colouring) (known
   class_next m is =
       let colour : m.colour ≡ set s.colour u (Some k) = ap (λ (y : Colouring). y.colour) is in
       let u_in : u < length s.colour = rw (proper.sized, x.batch) (known n 0 n_in) in
-      let at : (t : ℕ) → ((t ≡ u) × (colour_at m.colour t ≡ Some k)) ⊎ ((t ≢ u) × (colour_at m.colour t ≡ colour_at s.colour t)) = λ t. rw colour (at_written s.colour u t (Some k) u_in) in
+      let at : (t : ℕ) → ((t ≡ u) × (colour_at m.colour t ≡ Some k)) ⊎ ((t ≢ u) × (colour_at m.colour t ≡ colour_at s.colour t)) =
+      λ t. rw colour (at_written s.colour u t (Some k) u_in) in
       rw (take_more members n 0 n_in) (record {
         batch = ap (λ (y : Colouring). y.batch) is ∙ x.batch;
         colours = ap (λ (y : Colouring). y.colours) is ∙ x.colours;
@@ -110,7 +115,11 @@ module _ (old : Colouring) (members : List ℕ) (n : ℕ) (s : Colouring) (known
           | inr same ↦ elim (at t) [ inl here ↦ here.1 | inr other ↦ absurd (other.0 (sym same)) ]
         ];
         only = λ t c now. elim (at t) [
-          | inl here ↦ inr (same_Some c k (sym now ∙ here.1), subst (λ (v : ℕ). Contains (take n members ++ u ∷ []) v) (sym here.0) (Contains-push (take n members) u))
+          | inl here ↦ inr (
+            same_Some c k (sym now ∙ here.1),
+            subst (λ (v : ℕ). Contains (take n members ++ u ∷ []) v) (sym here.0)
+                (Contains-push (take n members) u),
+          )
           | inr other ↦ elim (x.only t c (sym other.1 ∙ now)) [
             | inl before ↦ inl before
             | inr given ↦ inr (given.0, Contains-append_left (take n members) (u ∷ []) t given.1)
@@ -130,6 +139,7 @@ module _ (g : List Transfer) (members : List ℕ) (s : Colouring) (x : HasClassM
     λ stands. subst IsSome (sym (x.given t stands)) refl,
   )
 
-pub first_placed_if : {E : Type 0} (g : List Transfer) (members : List ℕ) (r : Result Colouring E) → IfOk r (HasClassMore (nothing_placed g 0) members) → IfOk r (λ s. PlacesOnly s.colour members)
+pub first_placed_if : {E : Type 0} (g : List Transfer) (members : List ℕ) (r : Result Colouring E) → IfOk r (HasClassMore (nothing_placed g 0) members)
+    → IfOk r (λ s. PlacesOnly s.colour members)
 first_placed_if g members (Ok s) x = first_placed g members s x
 first_placed_if g members (Err e) x = tt

@@ -23,7 +23,8 @@ none_listed f n sized = record {
   listed = λ t c at less. absurd (omega arith);
 }
 
-module _ (s : Colouring) (k : ℕ) (row list now : List (Option ℕ)) (starts : AreStarts s k row) (so_far : AreListed s.colour list k) (noted : AreNoted row (length row) k list now) where
+module _ (s : Colouring) (k : ℕ) (row list now : List (Option ℕ)) (starts : AreStarts s k row) (so_far : AreListed s.colour list k)
+    (noted : AreNoted row (length row) k list now) where
   has : (t : ℕ) → colour_at s.colour t ≡ Some k → colour_at now t ≡ Some k
   has t at =
       let held = starts.held t at in
@@ -36,7 +37,8 @@ module _ (s : Colouring) (k : ℕ) (row list now : List (Option ℕ)) (starts : 
   next_listed = record {
     sized = noted.sized ∙ so_far.sized;
     right = λ t c at.
-        let go : (o : Option ℕ) → colour_at s.colour t ≡ o → colour_at s.colour t ≡ Some c = λ o. elim o as (λ o. colour_at s.colour t ≡ o → colour_at s.colour t ≡ Some c) [
+        let go : (o : Option ℕ) → colour_at s.colour t ≡ o → colour_at s.colour t ≡ Some c =
+        λ o. elim o as (λ o. colour_at s.colour t ≡ o → colour_at s.colour t ≡ Some c) [
           | None ↦ λ is. so_far.right t c (sym (keeps t (λ same. none-some k (sym is ∙ same))) ∙ at)
           | Some d ↦ λ is. elim (cases_eq d k) [
             | inl same ↦
@@ -53,12 +55,15 @@ module _ (s : Colouring) (k : ℕ) (row list now : List (Option ℕ)) (starts : 
   }
 
 -- after all colours
-pub all_listed : (g : Colouring) (list : List (Option ℕ)) (k : ℕ) → IsProper g.batch g.colours g.colour → AreListed g.colour list k → g.colours ≤ k → list ≡ g.colour
+pub all_listed : (g : Colouring) (list : List (Option ℕ)) (k : ℕ) → IsProper g.batch g.colours g.colour → AreListed g.colour list k → g.colours ≤ k → list
+    ≡ g.colour
 all_listed g list k proper all past =
     ext_get_or None list g.colour all.sized (λ t within.
-    let go : (o : Option ℕ) → colour_at g.colour t ≡ o → colour_at list t ≡ colour_at g.colour t = λ o. elim o as (λ o. colour_at g.colour t ≡ o → colour_at list t ≡ colour_at g.colour t) [
+    let go : (o : Option ℕ) → colour_at g.colour t ≡ o → colour_at list t ≡ colour_at g.colour t =
+    λ o. elim o as (λ o. colour_at g.colour t ≡ o → colour_at list t ≡ colour_at g.colour t) [
       | None ↦ λ is.
-          let back : (r : Option ℕ) → colour_at list t ≡ r → colour_at list t ≡ colour_at g.colour t = λ r. elim r as (λ r. colour_at list t ≡ r → colour_at list t ≡ colour_at g.colour t) [
+          let back : (r : Option ℕ) → colour_at list t ≡ r → colour_at list t ≡ colour_at g.colour t =
+          λ r. elim r as (λ r. colour_at list t ≡ r → colour_at list t ≡ colour_at g.colour t) [
             | None ↦ λ at. at ∙ sym is
             | Some c ↦ λ at. absurd (none-some c (sym is ∙ all.right t c at))
           ] in

@@ -1,6 +1,7 @@
--- How long an alternating path is at most: each step takes its first colour from a transfer that had
--- one of two colours, and a class has at most one transfer for each module.
-use Rattle.std.proofs.Common.{◌≡◌, ◌≢◌, ℕ, inl, inr, zero, suc, ◌+◌, ◌*◌, ◌<◌, ◌≤◌, List, length, set, take, drop, is_some, Option, Some, None, Bool, true, false, ◌&&◌, ◌||◌, eqb, count_by, arith, refl, ap, ◌∙◌, get_or-set_same, get_or-set_other, length-set}
+-- How long an alternating path is at most: each step takes its first colour from a transfer that
+-- had one of two colours, and a class has at most one transfer for each module.
+use Rattle.std.proofs.Common.{◌≡◌, ◌≢◌, ℕ, inl, inr, zero, suc, ◌+◌, ◌*◌, ◌<◌, ◌≤◌, List, length, set, take, drop, is_some, Option, Some, None, Bool, true, false, ◌&&◌, ◌||◌, eqb, count_by, arith}
+use Rattle.std.proofs.Common.{refl, ap, ◌∙◌, get_or-set_same, get_or-set_other, length-set}
 use Rattle.std.proofs.lemmas.Bool.{cases_eq}
 use Rattle.std.proofs.lemmas.Bool.Decides.{nat_tests}
 use Rattle.std.proofs.lemmas.List.{length-take}
@@ -46,7 +47,8 @@ either_way c d x y = grind arith
 
 module _ (g : List Transfer) (k : ℕ) (f₀ : List (Option ℕ)) (t : ℕ) (p₀ : IsProper g k f₀) (out₀ : colour_at f₀ t ≡ None) where
   -- with each step one transfer fewer has
-  pub still_less : (f : List (Option ℕ)) (hand : ℕ) (e o : End) (c d w : ℕ) → IsOnPath g k f₀ t f hand e o c d → colour_at f w ≡ Some c → link_at g w e ≡ link_at g hand e → still c d f f₀ ≡ still d c (set (set f w None) hand (Some c)) f₀ + 1
+  pub still_less : (f : List (Option ℕ)) (hand : ℕ) (e o : End) (c d w : ℕ) → IsOnPath g k f₀ t f hand e o c d → colour_at f w ≡ Some c → link_at g w e
+      ≡ link_at g hand e → still c d f f₀ ≡ still d c (set (set f w None) hand (Some c)) f₀ + 1
   still_less f hand e o c d w h at_w same =
       let was : colour_at f₀ w ≡ Some c = next_is_new g k f₀ t p₀ out₀ f hand e o c d w h at_w same in
       let ne : c ≢ d = λ cd. not_free g f h.proper.sized hand w d e h.d_free (at_w ∙ ap Some cd) same in
@@ -56,7 +58,8 @@ module _ (g : List Transfer) (k : ℕ) (f₀ : List (Option ℕ)) (t : ℕ) (p�
       let now : List (Option ℕ) = set (set f w None) hand (Some c) in
       let now_w : colour_at now w ≡ None = get_or-set_other (set f w None) hand w (Some c) None apart ∙ get_or-set_same f w None None w_in in
       let now_hand : colour_at now hand ≡ Some c = get_or-set_same (set f w None) hand (Some c) None hand_in in
-      count_below_more (length f₀) w (λ u. has_still d c (colour_at now u) (colour_at f₀ u)) (λ u. has_still c d (colour_at f u) (colour_at f₀ u)) (some_within f₀ w c was)
+      count_below_more (length f₀) w (λ u. has_still d c (colour_at now u) (colour_at f₀ u)) (λ u. has_still c d (colour_at f u) (colour_at f₀ u))
+      (some_within f₀ w c was)
       (rw (now_w, was) refl)
       (rw (at_w, was) (grind (arith, nat_tests)))
       (λ u u_in not_w. elim (cases_eq u hand) [
@@ -64,7 +67,8 @@ module _ (g : List Transfer) (k : ℕ) (f₀ : List (Option ℕ)) (t : ℕ) (p�
           | inl first ↦ rw (first.0, out₀) refl
           | inr old ↦ rw old (grind (arith, nat_tests, ne))
         ])
-        | inr not_hand ↦ rw (get_or-set_other (set f w None) hand u (Some c) None not_hand ∙ get_or-set_other f w u None None not_w) (either_way c d (colour_at f u) (colour_at f₀ u))
+        | inr not_hand ↦ rw (get_or-set_other (set f w None) hand u (Some c) None not_hand ∙ get_or-set_other f w u None None not_w)
+            (either_way c d (colour_at f u) (colour_at f₀ u))
       ])
 
 -- a class has at most one transfer for each module

@@ -59,34 +59,38 @@ without-at c f t = elim (cases_lt t (length f)) [
       get_or_past _ t None (rw length-map past) ∙ sym (ap (without_colour c) none)
 ]
 
-module _ (g : List Transfer) (k c : ℕ) (f h h' : List (Option ℕ)) (x : AreCellsOf g k f h) (c_in : c < k) (sized : length h' + LINKS ≡ length h) (before : (i : ℕ) → i < c * LINKS → get_or h' i None ≡ get_or h i None) (behind : (i : ℕ) → c * LINKS ≤ i → get_or h' i None ≡ get_or h (i + LINKS) None) where
-  row_at : (d l : ℕ) → l < LINKS → holder_at h' d l ≡ holder_at h (above c d) l
-  row_at d l l_in = elim (cases_lt d c) [
-    | inl less ↦
-        before (d * LINKS + l) (omega arith) ∙ ap (λ e. holder_at h e l) (sym (above_low c d less))
-    | inr more ↦
-        let place : (d * LINKS + l) + LINKS ≡ (d + 1) * LINKS + l = omega arith in
-        behind (d * LINKS + l) (omega arith) ∙ (ap (λ i. get_or h i None) place ∙ ap (λ e. holder_at h e l) (sym (above_high c d more)))
-  ]
+module _ (g : List Transfer) (k c : ℕ) (f h h' : List (Option ℕ)) (x : AreCellsOf g k f h) (c_in : c < k) (sized : length h' + LINKS ≡ length h)
+    (before : (i : ℕ) → i < c * LINKS → get_or h' i None ≡ get_or h i None) (behind : (i : ℕ) → c * LINKS ≤ i → get_or h' i None ≡ get_or h (i + LINKS) None)
+  where
+    row_at : (d l : ℕ) → l < LINKS → holder_at h' d l ≡ holder_at h (above c d) l
+    row_at d l l_in = elim (cases_lt d c) [
+      | inl less ↦
+          before (d * LINKS + l) (omega arith) ∙ ap (λ e. holder_at h e l) (sym (above_low c d less))
+      | inr more ↦
+          let place : (d * LINKS + l) + LINKS ≡ (d + 1) * LINKS + l = omega arith in
+          behind (d * LINKS + l) (omega arith) ∙ (ap (λ i. get_or h i None) place ∙ ap (λ e. holder_at h e l) (sym (above_high c d more)))
+    ]
 
-  pub removed_cells : AreCellsOf g (k - 1) (map (without_colour c) f) h'
-  removed_cells = record {
-    is_batch = x.is_batch;
-    sized = length-map f (without_colour c) ∙ x.sized;
-    rows = let n = x.rows in omega arith;
-    held = λ t d e at.
-        let old : colour_at f t ≡ Some (above c d) = was_above c d (colour_at f t) (sym (without-at c f t) ∙ at) in
-        row_at d (place_at g t e) (place_low g t e x.is_batch) ∙ x.held t (above c d) e old;
-    back = λ d l t l_in at.
-        let old = x.back (above c d) l t l_in (sym (row_at d l l_in) ∙ at) in
-        (without-at c f t ∙ (ap (without_colour c) old.0 ∙ now_below c d), old.1);
-  }
+    pub removed_cells : AreCellsOf g (k - 1) (map (without_colour c) f) h'
+    removed_cells = record {
+      is_batch = x.is_batch;
+      sized = length-map f (without_colour c) ∙ x.sized;
+      rows = let n = x.rows in omega arith;
+      held = λ t d e at.
+          let old : colour_at f t ≡ Some (above c d) = was_above c d (colour_at f t) (sym (without-at c f t) ∙ at) in
+          row_at d (place_at g t e) (place_low g t e x.is_batch) ∙ x.held t (above c d) e old;
+      back = λ d l t l_in at.
+          let old = x.back (above c d) l t l_in (sym (row_at d l l_in) ∙ at) in
+          (without-at c f t ∙ (ap (without_colour c) old.0 ∙ now_below c d), old.1);
+    }
 
 -- ---- over the cells of a table
 
-module _ (g : List Transfer) (k c : ℕ) (h h' : List (Option ℕ)) (x : ShowColouring g k h) (c_in : c < k) (sized : length h' + LINKS ≡ length h) (before : (i : ℕ) → i < c * LINKS → get_or h' i None ≡ get_or h i None) (behind : (i : ℕ) → c * LINKS ≤ i → get_or h' i None ≡ get_or h (i + LINKS) None) where
-  pub removed_show : ShowColouring g (k - 1) h'
-  removed_show = show g (k - 1) _ h' (removed_cells g k c (shown_colours g k h) h h' x c_in sized before behind)
+module _ (g : List Transfer) (k c : ℕ) (h h' : List (Option ℕ)) (x : ShowColouring g k h) (c_in : c < k) (sized : length h' + LINKS ≡ length h)
+    (before : (i : ℕ) → i < c * LINKS → get_or h' i None ≡ get_or h i None) (behind : (i : ℕ) → c * LINKS ≤ i → get_or h' i None ≡ get_or h (i + LINKS) None)
+  where
+    pub removed_show : ShowColouring g (k - 1) h'
+    removed_show = show g (k - 1) _ h' (removed_cells g k c (shown_colours g k h) h h' x c_in sized before behind)
 
-  pub removed_colours : shown_colours g (k - 1) h' ≡ map (without_colour c) (shown_colours g k h)
-  removed_colours = shown-is g (k - 1) _ h' (removed_cells g k c (shown_colours g k h) h h' x c_in sized before behind)
+    pub removed_colours : shown_colours g (k - 1) h' ≡ map (without_colour c) (shown_colours g k h)
+    removed_colours = shown-is g (k - 1) _ h' (removed_cells g k c (shown_colours g k h) h h' x c_in sized before behind)

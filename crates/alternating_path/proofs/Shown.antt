@@ -1,5 +1,6 @@
 -- The colouring that the cells show, and the cells after a transfer was put in or taken out.
-use Rattle.std.proofs.Common.{◌≡◌, ◌≢◌, ℕ, zero, suc, ◌+◌, ◌*◌, ◌<◌, ◌⊎◌, inl, inr, List, length, get_or, set, replicate, Option, Some, None, MatchOption, Bool, true, false, is_some, refl, sym, ap, ◌∙◌, subst, arith, get_or-set_same, get_or-set_other, length-set, eq-eqb}
+use Rattle.std.proofs.Common.{◌≡◌, ◌≢◌, ℕ, zero, suc, ◌+◌, ◌*◌, ◌<◌, ◌⊎◌, inl, inr, List, length, get_or, set, replicate, Option, Some, None, MatchOption, Bool, true, false, is_some, refl, sym, ap}
+use Rattle.std.proofs.Common.{◌∙◌, subst, arith, get_or-set_same, get_or-set_other, length-set, eq-eqb}
 use Rattle.std.proofs.lemmas.List.{get_or_past, get_or-replicate, get_or_read, length-replicate, ext_get_or}
 use Rattle.std.proofs.lemmas.List.FromFn.{length-map-range_with_len, get_or-map-range_with_len}
 use Rattle.std.proofs.lemmas.Option.{same_Some, none-some}
@@ -40,7 +41,8 @@ shown_at : (g : List Transfer) (k : ℕ) (f h : List (Option ℕ)) → AreCellsO
 unfolding shown_colour
 shown_at g k f h x t =
     let test : ℕ → Bool = λ c. is_transfer t (holder_at h c (place_at g t Zero)) in
-    let found : (c : ℕ) → test c ≡ true → colour_at f t ≡ Some c = λ c yes'. (x.back c (place_at g t Zero) t (place_low g t Zero x.is_batch) (is_transfer_yes t _ yes')).0 in
+    let found : (c : ℕ) → test c ≡ true → colour_at f t ≡ Some c =
+    λ c yes'. (x.back c (place_at g t Zero) t (place_low g t Zero x.is_batch) (is_transfer_yes t _ yes')).0 in
     let go : (o : Option ℕ) → colour_at f t ≡ o → last_below k test ≡ o = λ o. elim o as (λ o. colour_at f t ≡ o → last_below k test ≡ o) [
       | None ↦ λ is. last_below_none k test (λ c c_in. false_from_ne_true (test c) (λ yes'. none-some c (sym is ∙ found c yes')))
       | Some c ↦ λ is.
@@ -80,7 +82,8 @@ cells_proper g k f h x = record {
 -- ---- writes
 
 -- what two writes leave
-at_both : (h : List (Option ℕ)) (i j n : ℕ) (v : Option ℕ) → i < length h → j < length h → (((n ≡ i) ⊎ (n ≡ j)) × (get_or (set (set h i v) j v) n None ≡ v)) ⊎ ((n ≢ i) × (n ≢ j) × (get_or (set (set h i v) j v) n None ≡ get_or h n None))
+at_both : (h : List (Option ℕ)) (i j n : ℕ) (v : Option ℕ) → i < length h → j < length h → (((n ≡ i) ⊎ (n ≡ j)) × (get_or (set (set h i v) j v) n None ≡ v))
+    ⊎ ((n ≢ i) × (n ≢ j) × (get_or (set (set h i v) j v) n None ≡ get_or h n None))
 at_both h i j n v i_in j_in = elim (at_written (set h i v) j n v (rw length-set j_in)) [
   | inl is ↦ inl (inr is.0, is.1)
   | inr other ↦ elim (at_written h i n v i_in) [
@@ -95,7 +98,8 @@ cell_in h k c l rows c_in l_in = omega arith
 same_cell : (c d l m : ℕ) → l < LINKS → m < LINKS → c * LINKS + l ≡ d * LINKS + m → (c ≡ d) × (l ≡ m)
 same_cell c d l m l_in m_in e = (omega arith, omega arith)
 
-at_one : (g : List Transfer) (t c : ℕ) (e : End) → c * LINKS + place_at g t e ≢ c * LINKS + place_at g t Zero → c * LINKS + place_at g t e ≢ c * LINKS + place_at g t Three → ⊥
+at_one : (g : List Transfer) (t c : ℕ) (e : End) → c * LINKS + place_at g t e ≢ c * LINKS + place_at g t Zero → c * LINKS + place_at g t e ≢ c * LINKS +
+    place_at g t Three → ⊥
 at_one g t c Zero a b = a refl
 at_one g t c Three a b = b refl
 
@@ -103,7 +107,8 @@ at_one g t c Three a b = b refl
 abbrev pub put_cells : List Transfer → List (Option ℕ) → ℕ → ℕ → Option ℕ → List (Option ℕ)
 put_cells g h t c v = set (set h (c * LINKS + place_at g t Zero) v) (c * LINKS + place_at g t Three) v
 
-pub cells_after_put : (g : List Transfer) (k : ℕ) (f h : List (Option ℕ)) (t c : ℕ) → AreCellsOf g k f h → t < length g → c < k → colour_at f t ≡ None → IsFree g f (link_at g t Zero) c → IsFree g f (link_at g t Three) c → AreCellsOf g k (set f t (Some c)) (put_cells g h t c (Some t))
+pub cells_after_put : (g : List Transfer) (k : ℕ) (f h : List (Option ℕ)) (t c : ℕ) → AreCellsOf g k f h → t < length g → c < k → colour_at f t ≡ None
+    → IsFree g f (link_at g t Zero) c → IsFree g f (link_at g t Three) c → AreCellsOf g k (set f t (Some c)) (put_cells g h t c (Some t))
 cells_after_put g k f h t c x t_in c_in out zero_free three_free =
     let low : (u : ℕ) (e : End) → place_at g u e < LINKS = λ u e. place_low g u e x.is_batch in
     let i_in : c * LINKS + place_at g t Zero < length h = cell_in h k c _ x.rows c_in (low t Zero) in
@@ -135,9 +140,12 @@ cells_after_put g k f h t c x t_in c_in out zero_free three_free =
       back = λ d l u l_in at. elim (both (d * LINKS + l)) [
         | inl there ↦
             let tu : t ≡ u = same_Some t u (sym there.1 ∙ at) in
-            let at_end : (e : End) → d * LINKS + l ≡ c * LINKS + place_at g t e → (colour_at (set f t (Some c)) u ≡ Some d) × ((o : End) × (place_at g u o ≡ l)) = λ e place.
-            let s = same_cell d c l _ l_in (low t e) place in
-            (ap (colour_at (set f t (Some c))) (sym tu) ∙ (get_or-set_same f t (Some c) None f_in ∙ ap Some (sym s.0)), (e, ap (λ v. place_at g v e) (sym tu) ∙ sym s.1)) in
+            let at_end : (e : End) → d * LINKS + l ≡ c * LINKS + place_at g t e → (colour_at (set f t (Some c)) u ≡ Some d)
+            × ((o : End) × (place_at g u o ≡ l)) = λ e place.
+            let s = same_cell d c l _ l_in (low t e) place in (
+              ap (colour_at (set f t (Some c))) (sym tu) ∙ (get_or-set_same f t (Some c) None f_in ∙ ap Some (sym s.0)),
+              (e, ap (λ v. place_at g v e) (sym tu) ∙ sym s.1),
+            ) in
             elim there.0 [ inl i ↦ at_end Zero i | inr j ↦ at_end Three j ]
         | inr away ↦
             let old = x.back d l u l_in (sym away.2 ∙ at) in
@@ -146,7 +154,8 @@ cells_after_put g k f h t c x t_in c_in out zero_free three_free =
       ];
     }
 
-pub cells_after_take : (g : List Transfer) (k : ℕ) (f h : List (Option ℕ)) (t c : ℕ) → AreCellsOf g k f h → colour_at f t ≡ Some c → AreCellsOf g k (set f t None) (put_cells g h t c None)
+pub cells_after_take : (g : List Transfer) (k : ℕ) (f h : List (Option ℕ)) (t c : ℕ) → AreCellsOf g k f h → colour_at f t ≡ Some c
+    → AreCellsOf g k (set f t None) (put_cells g h t c None)
 cells_after_take g k f h t c x at_t =
     let low : (u : ℕ) (e : End) → place_at g u e < LINKS = λ u e. place_low g u e x.is_batch in
     let i_in : c * LINKS + place_at g t Zero < length h = some_within h _ t (x.held t c Zero at_t) in
@@ -195,7 +204,8 @@ empty_cells g k batch = record {
 }
 
 -- what the cell of colour c at the link that t uses at e says
-pub held_by : (g : List Transfer) (k : ℕ) (f h : List (Option ℕ)) (t c : ℕ) (e : End) (r : Option ℕ) → AreCellsOf g k f h → r ≡ holder_at h c (place_at g t e) → MatchOption r (IsFree g f (link_at g t e) c) (λ w. (colour_at f w ≡ Some c) × (link_at g w e ≡ link_at g t e))
+pub held_by : (g : List Transfer) (k : ℕ) (f h : List (Option ℕ)) (t c : ℕ) (e : End) (r : Option ℕ) → AreCellsOf g k f h → r ≡ holder_at h c (place_at g t e)
+    → MatchOption r (IsFree g f (link_at g t e) c) (λ w. (colour_at f w ≡ Some c) × (link_at g w e ≡ link_at g t e))
 held_by g k f h t c e None x is = free_from g f t c e (λ u at same. none-some u (is ∙ (ap (holder_at h c) (sym (place-link g u t e same)) ∙ x.held u c e at)))
 held_by g k f h t c e (Some w) x is =
     let old = x.back c (place_at g t e) w (place_low g t e x.is_batch) (sym is) in
@@ -205,10 +215,12 @@ held_by g k f h t c e (Some w) x is =
 
 -- ---- reads
 
-pub read_cell : (h : List (Option ℕ)) (k c place : ℕ) (r : Option ℕ) → length h ≡ k * LINKS → c < k → place < LINKS → r ≡ get_or h (c * LINKS + place) r → r ≡ holder_at h c place
+pub read_cell : (h : List (Option ℕ)) (k c place : ℕ) (r : Option ℕ) → length h ≡ k * LINKS → c < k → place < LINKS → r ≡ get_or h (c * LINKS + place) r → r
+    ≡ holder_at h c place
 read_cell h k c place r rows c_in place_in is = get_or_read h (c * LINKS + place) r (cell_in h k c place rows c_in place_in) is None
 
-pub not_shown : (g : List Transfer) (k : ℕ) (f h : List (Option ℕ)) (t : ℕ) → AreCellsOf g k f h → ((c : ℕ) → c < k → holder_at h c (place_at g t Zero) ≢ Some t) → None ≡ colour_at f t
+pub not_shown : (g : List Transfer) (k : ℕ) (f h : List (Option ℕ)) (t : ℕ) → AreCellsOf g k f h
+    → ((c : ℕ) → c < k → holder_at h c (place_at g t Zero) ≢ Some t) → None ≡ colour_at f t
 not_shown g k f h t x nowhere =
     let go : (o : Option ℕ) → colour_at f t ≡ o → None ≡ colour_at f t = λ o. elim o as (λ o. colour_at f t ≡ o → None ≡ colour_at f t) [
       | None ↦ λ is. sym is

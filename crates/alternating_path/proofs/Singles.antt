@@ -39,7 +39,8 @@ nothing_if None h = refl
 nothing_if (Some c) h = absurd (h refl)
 
 -- the next member is placed with a colour
-module _ (g : List Transfer) (k : ℕ) (members : List ℕ) (n : ℕ) (s : Colouring) (known : All (λ t. t < length g) members) (n_in : n < length members) (held : HoldsJust g k members n s) where
+module _ (g : List Transfer) (k : ℕ) (members : List ℕ) (n : ℕ) (s : Colouring) (known : All (λ t. t < length g) members) (n_in : n < length members)
+    (held : HoldsJust g k members n s) where
   abbrev t : ℕ
   t = get_or members n 0
 
@@ -69,7 +70,8 @@ module _ (g : List Transfer) (k : ℕ) (members : List ℕ) (n : ℕ) (s : Colou
     | inr other ↦ inr (subst IsSome other.1 some)
   ]
 
-  pub next_held : (c : ℕ) (m : Colouring) → m ≡ record s { colour = set s.colour t (Some c) } → IsProper m.batch m.colours m.colour → HoldsJust g k members (n + 1) m
+  pub next_held : (c : ℕ) (m : Colouring) → m ≡ record s { colour = set s.colour t (Some c) } → IsProper m.batch m.colours m.colour
+      → HoldsJust g k members (n + 1) m
   next_held c m is proper =
       let colour : m.colour ≡ set s.colour t (Some c) = ap (λ (x : Colouring). x.colour) is in
       record {
@@ -82,7 +84,9 @@ module _ (g : List Transfer) (k : ℕ) (members : List ℕ) (n : ℕ) (s : Colou
             | inl same ↦ subst (λ (v : ℕ). Contains (take n members ++ t ∷ []) v) (sym same) (Contains-push (take n members) t)
             | inr old ↦ Contains-append_left (take n members) (t ∷ []) u ((held.placed u).0 old)
           ]),
-          λ stands. subst (λ (f : List (Option ℕ)). HasColour f u) (sym colour) (placed_now c u (elim (Contains-push_cases (take n members) t u (rw (take_more members n 0 n_in) at stands)) [ inl before ↦ inr ((held.placed u).1 before) | inr same ↦ inl (sym same) ])),
+          λ stands. subst (λ (f : List (Option ℕ)). HasColour f u) (sym colour)
+              (placed_now c u (elim (Contains-push_cases (take n members) t u (rw (take_more members n 0 n_in) at stands))
+              [ inl before ↦ inr ((held.placed u).1 before) | inr same ↦ inl (sym same) ])),
         );
       }
 
@@ -96,12 +100,14 @@ pub record HoldsEach (g : List Transfer) (members : List ℕ) (n : ℕ) (s : Col
 pub none_each : (g : List Transfer) (members : List ℕ) → HoldsEach g members 0 (nothing_placed g (length members))
 none_each g members = record { held = none_held g (length members) members; early = λ u c at. absurd (none-some c (sym (nothing_at (length g) u) ∙ at)) }
 
-module _ (g : List Transfer) (members : List ℕ) (n : ℕ) (s : Colouring) (known : All (λ t. t < length g) members) (distinct : AreDistinct members) (n_in : n < length members) (x : HoldsEach g members n s) where
+module _ (g : List Transfer) (members : List ℕ) (n : ℕ) (s : Colouring) (known : All (λ t. t < length g) members) (distinct : AreDistinct members)
+    (n_in : n < length members) (x : HoldsEach g members n s) where
   abbrev w : ℕ
   w = get_or members n 0
 
   pub each_out : colour_at s.colour w ≡ None
-  each_out = nothing_if (colour_at s.colour w) (λ some. let at = place_of g (length members) members n s known n_in x.held w some in distinct at.0 n 0 at.1 n_in at.2)
+  each_out = nothing_if (colour_at s.colour w) (λ some. let at = place_of g (length members) members n s known n_in x.held w some in distinct at.0 n 0 at.1 n_in
+      at.2)
 
   pub each_free : (e : End) → IsFree s.batch s.colour (link_at s.batch w e) n
   each_free e = record { none = λ u at uses. absurd (omega (arith, x.early u n at)) }

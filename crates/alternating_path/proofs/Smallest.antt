@@ -1,5 +1,6 @@
 -- How large the classes are, and that a smallest one has at most its share.
-use Rattle.std.proofs.Common.{◌≡◌, ℕ, zero, suc, ◌+◌, ◌-◌, ◌*◌, ◌<◌, ◌≤◌, ◌↔◌, inl, inr, List, [], ◌∷◌, length, map, get_or, Option, Some, None, is_some, Bool, true, false, cond, count_by, refl, sym, ap, ◌∙◌, subst, arith, add-one, take, drop, below_more, eq-eqb}
+use Rattle.std.proofs.Common.{◌≡◌, ℕ, zero, suc, ◌+◌, ◌-◌, ◌*◌, ◌<◌, ◌≤◌, ◌↔◌, inl, inr, List, [], ◌∷◌, length, map, get_or, Option, Some, None, is_some, Bool, true, false, cond, count_by, refl, sym}
+use Rattle.std.proofs.Common.{ap, ◌∙◌, subst, arith, add-one, take, drop, below_more, eq-eqb}
 use Rattle.std.specs.Prelude.{◌==◌, Contains}
 use Rattle.std.specs.List.{filter_map}
 use Rattle.std.proofs.lemmas.List.{take_all, get_or-take, get_or-drop, length-take}
@@ -58,11 +59,15 @@ distinct_list (Some u ∷ row) once zero (suc j) d lt within same =
     let stands = in_row row j d (omega arith) in
     once 0 (suc stands.0) u (omega arith) refl (stands.1 ∙ ap Some (sym same))
 distinct_list (Some u ∷ row) once (suc i) zero d lt within same = omega arith
-distinct_list (Some u ∷ row) once (suc i) (suc j) d lt within same = distinct_list row (λ m n t less at too. once (suc m) (suc n) t (omega arith) at too) i j d (omega arith) (omega arith) same
+distinct_list (Some u ∷ row) once (suc i) (suc j) d lt within same = distinct_list row (λ m n t less at too. once (suc m) (suc n) t (omega arith) at too) i j d
+    (omega arith) (omega arith) same
 
 module _ (s : Colouring) (c : ℕ) (row : List (Option ℕ)) (starts : AreStarts s c row) where
   pub given_just : (t : ℕ) → Contains (class_list row) t ↔ (colour_at s.colour t ≡ Some c)
-  given_just t = (λ stands. let there = in_row row stands.0 t stands.1 in (starts.back there.0 t (there.1 ∙ ap Some stands.2)).0, λ at. in_list row (place_at s.batch t Zero) t (starts.held t at))
+  given_just t = (
+    λ stands. let there = in_row row stands.0 t stands.1 in (starts.back there.0 t (there.1 ∙ ap Some stands.2)).0,
+    λ at. in_list row (place_at s.batch t Zero) t (starts.held t at),
+  )
 
   pub given_once : AreDistinct (class_list row)
   given_once = distinct_list row (λ m n t less at too. let a = (starts.back m t at).1 in let b = (starts.back n t too).1 in omega arith)
@@ -74,8 +79,10 @@ counted_upto row zero le = refl
 counted_upto row (suc n) le =
     let rest = counted_upto row n (omega arith) in
     elim (cases_Bool (is_some (get_or row n None))) [
-      | inl yes' ↦ let more : count_by is_some (take (suc n) row) ≡ count_by is_some (take n row) + 1 = rw (add-one n) at (count_by_more_yes is_some row n None (omega arith) yes') in rw (yes', more) (omega (arith, rest))
-      | inr no' ↦ let same : count_by is_some (take (suc n) row) ≡ count_by is_some (take n row) = rw (add-one n) at (count_by_more_no is_some row n None (omega arith) no') in rw (no', same) (omega (arith, rest))
+      | inl yes' ↦ let more : count_by is_some (take (suc n) row) ≡ count_by is_some (take n row) + 1 = rw (add-one n)
+          at (count_by_more_yes is_some row n None (omega arith) yes') in rw (yes', more) (omega (arith, rest))
+      | inr no' ↦ let same : count_by is_some (take (suc n) row) ≡ count_by is_some (take n row) = rw (add-one n)
+          at (count_by_more_no is_some row n None (omega arith) no') in rw (no', same) (omega (arith, rest))
     ]
 
 -- the place of t where t has the colour c
@@ -98,7 +105,9 @@ unfolding place_if
 row_counts s c row starts =
     let n = length s.colour in
     let p : ℕ → Option ℕ = λ t. place_if (is_colour c (colour_at s.colour t)) (place_at s.batch t Zero) in
-    let tests = count_below_same n (λ t. is_colour c (colour_at s.colour t)) (λ t. is_some (p t)) (λ t _. elim (is_colour c (colour_at s.colour t)) as (λ b. b ≡ is_some (cond b (Some (place_at s.batch t Zero)) None)) [ true ↦ refl | false ↦ refl ]) in
+    let tests = count_below_same n (λ t. is_colour c (colour_at s.colour t)) (λ t. is_some (p t))
+    (λ t _. elim (is_colour c (colour_at s.colour t)) as (λ b. b ≡ is_some (cond b (Some (place_at s.batch t Zero)) None))
+    [ true ↦ refl | false ↦ refl ]) in
     let matched = as_many n (length row) p (λ m. get_or row m None)
     (λ t m t_in at.
     let both = if_some (is_colour c (colour_at s.colour t)) (place_at s.batch t Zero) m at in
@@ -133,7 +142,12 @@ one_colour k (Some e) = (at_most_once k e).0
 
 total : (k n : ℕ) (f : List (Option ℕ)) → sum_below k (λ d. count_below n (λ t. is_colour d (colour_at f t))) ≤ count_below n (λ t. is_some (colour_at f t))
 total k zero f = omega (arith, sum_below_none k)
-total k (suc n) f = omega (arith, sum_below-add k (λ d. cond (is_colour d (colour_at f n)) 1 0) (λ d. count_below n (λ t. is_colour d (colour_at f t))), one_colour k (colour_at f n), total k n f)
+total k (suc n) f = omega (
+  arith,
+  sum_below-add k (λ d. cond (is_colour d (colour_at f n)) 1 0) (λ d. count_below n (λ t. is_colour d (colour_at f t))),
+  one_colour k (colour_at f n),
+  total k n f,
+)
 
 pub share : (k c : ℕ) (f : List (Option ℕ)) → ((d : ℕ) → d < k → class_size f c ≤ class_size f d) → class_size f c * k ≤ placed_count f
 share k c f least = omega (arith, many_least k (class_size f c) (class_size f) least, total k (length f) f)
@@ -146,7 +160,12 @@ pub record IsLeastBelow (s : Colouring) (n c : ℕ) : Type 0 where
   pub first : (d : ℕ) → d < c → class_size s.colour c < class_size s.colour d
 
 pub least_first : (s : Colouring) → 0 < s.colours → IsLeastBelow s 1 0
-least_first s some = record { in_range = some; least = λ d d_in. let zero_is : d ≡ 0 = omega arith in rw zero_is (omega arith); first = λ d less. absurd (omega arith) }
+least_first s some = record {
+  in_range = some;
+  least = λ d d_in. let zero_is : d ≡ 0 = omega arith in rw zero_is (omega arith);
+  first =
+      λ d less. absurd (omega arith);
+}
 
 pub least_stays : (s : Colouring) (n c : ℕ) → IsLeastBelow s n c → class_size s.colour c ≤ class_size s.colour n → IsLeastBelow s (n + 1) c
 least_stays s n c so_far more = record { in_range = so_far.in_range; least = below_more _ _ so_far.least more; first = so_far.first }
@@ -167,7 +186,8 @@ at_start : (g : List Transfer) (t m : ℕ) (e : End) → m < MAX_MODULES → pla
 at_start g t m Zero m_in at = at
 at_start g t m Three m_in at = let high = answer_high g t in absurd (omega arith)
 
-module _ (s : Colouring) (h : List (Option ℕ)) (c : ℕ) (x : AreCellsOf s.batch s.colours s.colour h) (n : ℕ) (few : n ≤ MAX_MODULES) (all : StartBelow s.batch n) where
+module _ (s : Colouring) (h : List (Option ℕ)) (c : ℕ) (x : AreCellsOf s.batch s.colours s.colour h) (n : ℕ) (few : n ≤ MAX_MODULES)
+    (all : StartBelow s.batch n) where
   row_at : (m : ℕ) → m < n → get_or (take n (drop (c * LINKS) h)) m None ≡ holder_at h c m
   row_at m m_in = get_or-take n (drop (c * LINKS) h) m None m_in ∙ get_or-drop (c * LINKS) h m None
 
@@ -183,7 +203,8 @@ module _ (s : Colouring) (h : List (Option ℕ)) (c : ℕ) (x : AreCellsOf s.bat
 
 -- ---- what is taken back
 
-pub taken_back : (old new : Colouring) (c : ℕ) (row : List (Option ℕ)) (back : List ℕ) → IsSmallestClass old c → AreStarts old c row → back ≡ class_list row → new ≡ record old { colours = old.colours - 1; colour = map (without_colour c) old.colour } → IsTakenBack old new back
+pub taken_back : (old new : Colouring) (c : ℕ) (row : List (Option ℕ)) (back : List ℕ) → IsSmallestClass old c → AreStarts old c row → back ≡ class_list row
+    → new ≡ record old { colours = old.colours - 1; colour = map (without_colour c) old.colour } → IsTakenBack old new back
 taken_back old new c row back smallest starts is rest = record {
   c = c;
   smallest = smallest;

@@ -8,7 +8,8 @@ pub differs : (f : List (Option ℕ)) (u v c : ℕ) → colour_at f u ≡ Some c
 differs f u v c at out same = let e : colour_at f u ≡ colour_at f v = ap (colour_at f) same in cc
 
 -- what a write leaves at a transfer
-pub at_written : (f : List (Option ℕ)) (w u : ℕ) (v : Option ℕ) → w < length f → ((u ≡ w) × (colour_at (set f w v) u ≡ v)) ⊎ ((u ≢ w) × (colour_at (set f w v) u ≡ colour_at f u))
+pub at_written : (f : List (Option ℕ)) (w u : ℕ) (v : Option ℕ) → w < length f → ((u ≡ w) × (colour_at (set f w v) u ≡ v))
+    ⊎ ((u ≢ w) × (colour_at (set f w v) u ≡ colour_at f u))
 at_written f w u v within = elim (cases_eq u w) [
   | inl same ↦ inl (same, subst (λ x. colour_at (set f w v) x ≡ v) (sym same) (get_or-set_same f w v None within))
   | inr apart ↦ inr (apart, get_or-set_other f w u v None apart)
@@ -28,7 +29,8 @@ after_take f w u c within at = elim (at_written f w u None within) [
 ]
 
 -- a colour of the table after t is put in
-pub after_put : (f : List (Option ℕ)) (x u c d : ℕ) → x < length f → colour_at (set f x (Some c)) u ≡ Some d → ((u ≡ x) × (c ≡ d)) ⊎ ((u ≢ x) × (colour_at f u ≡ Some d))
+pub after_put : (f : List (Option ℕ)) (x u c d : ℕ) → x < length f → colour_at (set f x (Some c)) u ≡ Some d → ((u ≡ x) × (c ≡ d))
+    ⊎ ((u ≢ x) × (colour_at f u ≡ Some d))
 after_put f x u c d within at = elim (at_written f x u (Some c) within) [
   | inl is ↦ inl (is.0, cc)
   | inr other ↦ inr (other.0, sym other.1 ∙ at)

@@ -1,6 +1,7 @@
 -- How the cells of a table show a colouring: each colour has a row, with a cell for each link,
 -- which has the transfer of that colour that uses the link.
-use Rattle.std.specs.Prelude.{◌≡◌, ◌≢◌, ℕ, zero, suc, ◌+◌, ◌*◌, ◌<◌, ◌≤◌, List, length, map, Option, Some, None, Bool, false, ◌==◌, cond, slice_index_or}
+use Rattle.std.specs.Prelude.{◌≡◌, ◌≢◌, ℕ, zero, suc, ◌+◌, ◌*◌, ◌<◌, ◌≤◌, List, length, map, Option}
+use Rattle.std.specs.Prelude.{Some, None, Bool, false, ◌==◌, cond, slice_index_or}
 use Rattle.std.specs.List.{range_with_len}
 use Rattle.batch.specs.Batches.{IsBatch}
 use Rattle.batch.specs.declared.transfer.Transfer.{Transfer}

@@ -1,5 +1,7 @@
 -- The colour classes of a colouring, as the settings of a schedule.
-use Rattle.std.specs.Prelude.{◌≡◌, ◌↔◌, ℕ, ◌-◌, ◌*◌, ◌<◌, ◌≤◌, List, [], ◌∷◌, ◌++◌, length, map, Option, Some, None, is_some, Bool, false, ◌==◌, nat_lt, cond, All, AllPairs, Any, Contains, slice_index, slice_index_or, slice_set}
+use Rattle.std.specs.Prelude.{◌≡◌, ◌↔◌, ℕ, ◌-◌, ◌*◌, ◌<◌, ◌≤◌, List, [], ◌∷◌, ◌++◌, length, map}
+use Rattle.std.specs.Prelude.{Option, Some, None, is_some, Bool, false, ◌==◌, nat_lt, cond, All}
+use Rattle.std.specs.Prelude.{AllPairs, Any, Contains, slice_index, slice_index_or, slice_set}
 use Rattle.link_graph.specs.Certificates.{AreDistinct}
 use Rattle.link_graph.specs.Counts.{count_below}
 use Rattle.link_graph.specs.Schedules.{times, IsScheduleOf}

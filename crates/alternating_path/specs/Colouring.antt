@@ -3,7 +3,8 @@
 -- König, "Über Graphen und ihre Anwendung auf Determinantentheorie und Mengenlehre", 1916: where d
 -- is the greatest number of edges at a node, d colours suffice for a proper edge colouring of all
 -- edges.
-use Rattle.std.specs.Prelude.{◌≡◌, ◌≢◌, ℕ, ◌+◌, ◌-◌, ◌^◌, ◌<◌, ◌⊎◌, ◌↔◌, min, List, length, replicate, set, Option, Some, None, IsSome, Contains, slice_index_or}
+use Rattle.std.specs.Prelude.{◌≡◌, ◌≢◌, ℕ, ◌+◌, ◌-◌, ◌^◌, ◌<◌, ◌⊎◌, ◌↔◌, min, List, length}
+use Rattle.std.specs.Prelude.{replicate, set, Option, Some, None, IsSome, Contains, slice_index_or}
 use Rattle.batch.specs.declared.transfer.Transfer.{Transfer}
 use Rattle.link_graph.specs.declared.link.End.{End}
 use Rattle.link_graph.specs.declared.link.Link.{Link}

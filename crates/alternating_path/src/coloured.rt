@@ -49,13 +49,13 @@ impl Coloured {
 impl PartialEq for Coloured {
     ghost use Rattle.std.specs.Prelude.{◌≡◌, ◌↔◌, IsTrue};
     ghost use Rattle.std.specs.Cmp.{and_per, on_per, nat_eq_equiv, partial_equiv_from_equiv};
-    ghost use Rattle.link_graph.specs.contracts.schedule.SchedulePartialEq.TheImpl.Laws as schedules;
+    ghost use Rattle.link_graph.specs.contracts.schedule.SchedulePartialEq.TheImpl.Laws as lists;
     ghost use Rattle.alternating_path.specs.Equal.{same_coloured};
 
     ghost eq = { same_coloured };
 
     ghost laws = { and_per
-        (on_per (λ s. s.settings) schedules.laws-law)
+        (on_per (λ s. s.settings) lists.laws-law)
         (on_per (λ s. s.inserted) (partial_equiv_from_equiv nat_eq_equiv)) };
 
     fn eq(&self, other: &Coloured) -> bool
@@ -68,9 +68,9 @@ impl PartialEq for Coloured {
 
 impl Eq for Coloured {
     ghost use Rattle.std.specs.Cmp.{and_equiv, on_equiv, nat_eq_equiv};
-    ghost use Rattle.link_graph.specs.contracts.schedule.ScheduleEq.TheImpl.Laws as schedules;
+    ghost use Rattle.link_graph.specs.contracts.schedule.ScheduleEq.TheImpl.Laws as lists;
 
     ghost laws = { and_equiv
-        (on_equiv (λ s. s.settings) schedules.laws-law)
+        (on_equiv (λ s. s.settings) lists.laws-law)
         (on_equiv (λ s. s.inserted) nat_eq_equiv) };
 }

@@ -1,6 +1,7 @@
 //! Rows of a table's cells.
 
-ghost use Rattle.std.specs.Prelude.{◌≡◌, ℕ, ◌+◌, ◌*◌, ◌<◌, ◌≤◌, length, is_some, count_by, Some, None, IfOk, OnOk, slice_index_or};
+ghost use Rattle.std.specs.Prelude.{◌≡◌, ℕ, ◌+◌, ◌*◌, ◌<◌, ◌≤◌, length, is_some, count_by, Some};
+ghost use Rattle.std.specs.Prelude.{None, IfOk, OnOk, slice_index_or};
 ghost use Rattle.std.specs.List.{filter_map};
 ghost use Rattle.alternating_path.specs.Cells.{AreNoted, KeepsRowsBelow, MovesRowsUp};
 

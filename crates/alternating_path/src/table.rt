@@ -1,14 +1,20 @@
 //! Tables of edge colourings, and the insertion of an edge.
 
-ghost use Rattle.std.specs.Prelude.{◌≡◌, ◌+◌, ◌*◌, ◌<◌, ◌≤◌, ◌↔◌, length, replicate, All, Some, None, Err, IfOk, OnOk, OnErr, MatchOption, IfSome, IfNone, OnSome};
+ghost use Rattle.std.specs.Prelude.{◌≡◌, ◌+◌, ◌*◌, ◌<◌, ◌≤◌, ◌↔◌, length, replicate, All, Some};
+ghost use Rattle.std.specs.Prelude.{None, Err, IfOk, OnOk, OnErr, MatchOption, IfSome, IfNone};
+ghost use Rattle.std.specs.Prelude.{OnSome};
 ghost use Rattle.batch.specs.Batches.{IsBatch};
 ghost use Rattle.batch.specs.declared.limits.TheConstants.{MAX_MODULES};
 ghost use Rattle.link_graph.specs.declared.link.End.TheVariants.{Zero, Three};
 ghost use Rattle.link_graph.specs.Certificates.{AreDistinct};
 ghost use Rattle.link_graph.specs.declared.limits.TheConstants.{LINKS};
 ghost use Rattle.link_graph.specs.Uses.{IsMatching};
-ghost use Rattle.alternating_path.specs.Colouring.{colour_at, HasColour, nothing_placed, IsProperTable, IsFreeAt, TakesAt, with_colour, PlacesOnly, PlacesJust, ArePlacedApart, counted, IsJoined, HasClassMore};
-ghost use Rattle.alternating_path.specs.Classes.{AreClassesOf, ScheduleIfAll, class_size, IsSmallestClass, IsTakenBack};
+ghost use Rattle.alternating_path.specs.Colouring.{colour_at, HasColour, nothing_placed};
+ghost use Rattle.alternating_path.specs.Colouring.{IsProperTable, IsFreeAt, TakesAt, with_colour};
+ghost use Rattle.alternating_path.specs.Colouring.{PlacesOnly, PlacesJust, ArePlacedApart, counted};
+ghost use Rattle.alternating_path.specs.Colouring.{IsJoined, HasClassMore};
+ghost use Rattle.alternating_path.specs.Classes.{AreClassesOf, ScheduleIfAll, class_size};
+ghost use Rattle.alternating_path.specs.Classes.{IsSmallestClass, IsTakenBack};
 ghost use Rattle.alternating_path.specs.Counts.{placed_uses_at, IsShutOut};
 ghost use Rattle.alternating_path.specs.Cells.{place_at, StartBelow, AreStarts};
 
@@ -307,8 +313,8 @@ impl<'a> Table<'a> {
         self.insert_in_steps(t, &mut Steps::none())
     }
 
-    /// [`insert`](Table::insert), with its steps counted: a look at a colour at a link is one, and a
-    /// transfer that is placed.
+    /// [`insert`](Table::insert), with its steps counted: a look at a colour at a link is one, and
+    /// a transfer that is placed.
     pub fn insert_in_steps(&mut self, t: usize, steps: &mut Steps) -> Result<(), InsertFault>
         requires { t < length self.old.batch }
         ensures already { (result ≡ Err InsertFault.Already) ↔ HasColour self.old.colour t }

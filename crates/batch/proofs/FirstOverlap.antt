@@ -1,10 +1,11 @@
 -- The first pair of transfers that overlap.
-use Rattle.std.proofs.Common.{ℕ, ◌≡◌, ◌≢◌, ◌<◌, ◌≤◌, zero, suc, ◌-◌, List, length, get_or, set, replicate, Option, None, Some, MatchOption, inl, inr, subst, sym, ap, ◌∙◌, arith, get_or-set_same, get_or-set_other}
+use Rattle.std.proofs.Common.{ℕ, ◌≡◌, ◌≢◌, ◌<◌, ◌≤◌, zero, suc, ◌-◌, List, length, get_or, set, replicate, Option, None, Some, MatchOption, inl, inr, subst, sym, ap, ◌∙◌, arith, get_or-set_same}
+use Rattle.std.proofs.Common.{get_or-set_other}
 use Rattle.std.proofs.lemmas.Bool.{cases_lt, cases_eq}
 use Rattle.std.proofs.lemmas.List.{get_or-replicate}
 use Rattle.batch.specs.declared.transfer.Transfer.{Transfer}
 use Rattle.batch.specs.declared.transfer.Place.{Place}
-use Rattle.batch.specs.declared.overlap.TheConstants.{MAX_RACK_BLOCKS}
+use Rattle.batch.specs.declared.limits.TheConstants.{MAX_RACK_BLOCKS}
 use Rattle.batch.specs.ShapeView.{widest}
 use Rattle.batch.specs.Places.{HasPlace, place_index}
 use Rattle.batch.specs.Overlap.{destination_at, Overlap, IsApart, IsPairUpTo, IsFirstOverlap}
@@ -91,7 +92,8 @@ module _ (ts : List Transfer) (i : ℕ) (some : 0 < i) where
     least = λ k l m e. h.least k (behind k l (λ f. other (ap (destination_at ts) (sym f) ∙ e))) m e;
   }
 
-  pub next_more : (next : List (Option ℕ)) (k : ℕ) (p : Place) → i ≤ length ts → k ≡ place_index widest p → p ≡ destination_at ts (i - 1) → HasPlace widest p → k < length next → AreNextWriters ts i next → AreNextWriters ts (i - 1) (set next k (Some (i - 1)))
+  pub next_more : (next : List (Option ℕ)) (k : ℕ) (p : Place) → i ≤ length ts → k ≡ place_index widest p → p ≡ destination_at ts (i - 1) → HasPlace widest p
+      → k < length next → AreNextWriters ts i next → AreNextWriters ts (i - 1) (set next k (Some (i - 1)))
   next_more next k p up at e hp l h = λ q hq. elim (cases_eq (place_index widest q) k) [
     | inl same ↦
         let one : q ≡ p = same_place_from_index widest q p hq hp (same ∙ at) in
@@ -107,7 +109,8 @@ module _ (ts : List Transfer) (i : ℕ) (some : 0 < i) where
   first_kept None none h = λ k l m o. h k l (behind k m (λ f. none l (subst (λ (x : ℕ). Overlap ts x l) f o))) o
   first_kept (Some pair) none h = (h.0, λ k l m o. h.1 k l (behind k m (λ f. none l (subst (λ (x : ℕ). Overlap ts x l) f o))) o)
 
-  pub first_alone : (first : Option (ℕ × ℕ)) (p : Place) → p ≡ destination_at ts (i - 1) → IsNextWriter ts i p None → IsFirstFrom ts i first → IsFirstFrom ts (i - 1) first
+  pub first_alone : (first : Option (ℕ × ℕ)) (p : Place) → p ≡ destination_at ts (i - 1) → IsNextWriter ts i p None → IsFirstFrom ts i first
+      → IsFirstFrom ts (i - 1) first
   first_alone first p e h = first_kept first (λ l o. h l (omega (arith, o.ordered)) o.within (sym o.one_destination ∙ sym e))
 
   -- it overlaps with a transfer after it

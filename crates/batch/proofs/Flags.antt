@@ -1,5 +1,6 @@
 -- Flags for the blocks that transfers write.
-use Rattle.std.proofs.Common.{ℕ, zero, suc, replicate, ◌≡◌, ◌<◌, ◌+◌, ◌⊎◌, inl, inr, ◌↔◌, Bool, true, false, List, length, get_or, set, refl, sym, ap, ◌∙◌, subst, arith, get_or-set_same, get_or-set_other}
+use Rattle.std.proofs.Common.{ℕ, zero, suc, replicate, ◌≡◌, ◌<◌, ◌+◌, ◌⊎◌, inl, inr, ◌↔◌, Bool, true, false, List, length, get_or, set, refl, sym, ap, ◌∙◌, subst, arith, get_or-set_same}
+use Rattle.std.proofs.Common.{get_or-set_other}
 use Rattle.std.proofs.lemmas.Bool.{cases_eq}
 use Rattle.batch.specs.ShapeView.{widest}
 use Rattle.batch.specs.declared.transfer.Place.{Place}
@@ -17,7 +18,8 @@ IsWrittenBelow ts n p = (i : ℕ) × (i < n) × (destination_at ts i ≡ p)
 abbrev pub AreUpBelow : List Transfer → ℕ → List Bool → Type 0
 AreUpBelow ts n flags = (p : Place) → HasPlace widest p → (flag_of flags p ≡ true) ↔ IsWrittenBelow ts n p
 
-written_more : (ts : List Transfer) (n : ℕ) (flags : List Bool) (p q : Place) → p ≡ destination_at ts n → HasPlace widest p → HasPlace widest q → place_index widest p < length flags → AreUpBelow ts n flags
+written_more : (ts : List Transfer) (n : ℕ) (flags : List Bool) (p q : Place) → p ≡ destination_at ts n → HasPlace widest p → HasPlace widest q
+    → place_index widest p < length flags → AreUpBelow ts n flags
     → (place_index widest q ≡ place_index widest p) ⊎ (place_index widest q ≡ place_index widest p → ⊥)
     → (flag_of (set flags (place_index widest p) true) q ≡ true) ↔ IsWrittenBelow ts (n + 1) q
 written_more ts n flags p q e hp hq l h (inl same) = (
@@ -34,7 +36,8 @@ written_more ts n flags p q e hp hq l h (inr other) =
     )
 
 -- one more transfer
-pub up_more : (ts : List Transfer) (n : ℕ) (flags : List Bool) (k : ℕ) (p : Place) → k ≡ place_index widest p → p ≡ destination_at ts n → HasPlace widest p → k < length flags → AreUpBelow ts n flags → AreUpBelow ts (n + 1) (set flags k true)
+pub up_more : (ts : List Transfer) (n : ℕ) (flags : List Bool) (k : ℕ) (p : Place) → k ≡ place_index widest p → p ≡ destination_at ts n → HasPlace widest p
+    → k < length flags → AreUpBelow ts n flags → AreUpBelow ts (n + 1) (set flags k true)
 up_more ts n flags k p at e hp l h =
     subst (λ (i : ℕ). AreUpBelow ts (n + 1) (set flags i true)) (sym at)
     (λ q hq. written_more ts n flags p q e hp hq (omega (arith, at)) h (cases_eq (place_index widest q) (place_index widest p)))

@@ -1,5 +1,6 @@
 -- Which blocks a batch writes, and which of its sources were found to be held.
-use Rattle.std.proofs.Common.{zero, suc, Bool, true, false, ◌&&◌, ◌||◌, ◌==◌, eq-eqb, ne_eqb, ℕ, ◌≡◌, ◌≢◌, ◌<◌, ◌+◌, ◌⊎◌, ◌↔◌, List, [], ◌∷◌, ◌++◌, length, get_or, set, refl, sym, ap, ap₂, ◌∙◌, subst, arith, inl, inr, get_or-set_same, get_or-set_other, Contains}
+use Rattle.std.proofs.Common.{zero, suc, Bool, true, false, ◌&&◌, ◌||◌, ◌==◌, eq-eqb, ne_eqb, ℕ, ◌≡◌, ◌≢◌, ◌<◌, ◌+◌, ◌⊎◌, ◌↔◌, List, [], ◌∷◌, ◌++◌, length, get_or, set, refl, sym, ap, ap₂, ◌∙◌, subst}
+use Rattle.std.proofs.Common.{arith, inl, inr, get_or-set_same, get_or-set_other, Contains}
 use Rattle.std.specs.List.{AllPairs}
 use Rattle.std.proofs.lemmas.Bool.{cases_eq, false≢true}
 use Rattle.std.proofs.lemmas.List.Elements.{Contains-append_left, Contains-get_or, Contains-push, Contains-push_cases}
@@ -25,12 +26,14 @@ same_place_tells p q =
       | inr f ↦ inr (ap (λ (a : Bool). a && (p.block == q.block)) (ne_eqb p.«module» q.«module» f), λ g. f (ap (λ (x : Place). x.«module») g))
     ]
 
-unwritten_more : (t : Transfer) (ts : List Transfer) (p : Place) → destination_of t ≢ p → ((i : ℕ) → i < length ts → destination_at ts i ≢ p) → (i : ℕ) → i < length (t ∷ ts) → destination_at (t ∷ ts) i ≢ p
+unwritten_more : (t : Transfer) (ts : List Transfer) (p : Place) → destination_of t ≢ p → ((i : ℕ) → i < length ts → destination_at ts i ≢ p) → (i : ℕ)
+    → i < length (t ∷ ts) → destination_at (t ∷ ts) i ≢ p
 unwritten_more t ts p n m zero l = n
 unwritten_more t ts p n m (suc i) l = m i (omega arith)
 
 -- a transfer of the list writes the block, or none does
-pub written_tells : (ts : List Transfer) (p : Place) → ((is_written ts p ≡ true) × IsWrittenBelow ts (length ts) p) ⊎ ((is_written ts p ≡ false) × ((i : ℕ) → i < length ts → destination_at ts i ≢ p))
+pub written_tells : (ts : List Transfer) (p : Place) → ((is_written ts p ≡ true) × IsWrittenBelow ts (length ts) p)
+    ⊎ ((is_written ts p ≡ false) × ((i : ℕ) → i < length ts → destination_at ts i ≢ p))
 written_tells [] p = inr (refl, λ i l. absurd (omega arith))
 written_tells (t ∷ ts) p =
     elim (same_place_tells (destination_of t) p) [
@@ -87,7 +90,8 @@ held_none ts flags held e h = subst (AreHeldBelow ts 0 flags) (sym e) (record {
 })
 
 -- the next source isn't written, or stands among the held ones already
-pub held_skip : (ts : List Transfer) (n : ℕ) (flags : List Bool) (held : List Place) (k : ℕ) (p : Place) → k ≡ place_index widest p → p ≡ source_at ts n → HasPlace widest p → get_or flags k false ≡ false → AreHeldBelow ts n flags held → AreHeldBelow ts (n + 1) flags held
+pub held_skip : (ts : List Transfer) (n : ℕ) (flags : List Bool) (held : List Place) (k : ℕ) (p : Place) → k ≡ place_index widest p → p ≡ source_at ts n
+    → HasPlace widest p → get_or flags k false ≡ false → AreHeldBelow ts n flags held → AreHeldBelow ts (n + 1) flags held
 held_skip ts n flags held k p at e hp low h =
     record {
       unheld = h.unheld;
@@ -106,13 +110,15 @@ held_skip ts n flags held k p at e hp low h =
       once = h.once;
     }
 
-unheld_more : (ts : List Transfer) (n : ℕ) (flags : List Bool) (held : List Place) (p q : Place) → HasPlace widest p → HasPlace widest q → place_index widest p < length flags → AreHeldBelow ts n flags held
+unheld_more : (ts : List Transfer) (n : ℕ) (flags : List Bool) (held : List Place) (p q : Place) → HasPlace widest p → HasPlace widest q
+    → place_index widest p < length flags → AreHeldBelow ts n flags held
     → (flag_of (set flags (place_index widest p) false) q ≡ true) ↔ ((is_written ts q ≡ true) × (Contains (held ++ p ∷ []) q → ⊥))
 unheld_more ts n flags held p q hp hq l h =
     elim (same_place_tells p q) [
       | inl s ↦
           let low : flag_of (set flags (place_index widest p) false) q ≡ false =
-          ap (λ (x : Place). get_or (set flags (place_index widest p) false) (place_index widest x) false) (sym s.1) ∙ get_or-set_same flags (place_index widest p) false false l in
+          ap (λ (x : Place). get_or (set flags (place_index widest p) false) (place_index widest x) false) (sym s.1)
+          ∙ get_or-set_same flags (place_index widest p) false false l in
           (λ up. absurd (false≢true (sym low ∙ up)), λ w. absurd (w.1 (subst (Contains (held ++ p ∷ [])) s.1 (Contains-push held p))))
       | inr s ↦
           let kept : flag_of (set flags (place_index widest p) false) q ≡ flag_of flags q =
@@ -123,11 +129,14 @@ unheld_more ts n flags held p q hp hq l h =
     ]
 
 -- the next source is held
-pub held_one : (ts : List Transfer) (n : ℕ) (flags : List Bool) (held : List Place) (k : ℕ) (p : Place) → k ≡ place_index widest p → p ≡ source_at ts n → HasPlace widest p → n < length ts → get_or flags k false ≡ true → AreHeldBelow ts n flags held → HasHeldSource ts
+pub held_one : (ts : List Transfer) (n : ℕ) (flags : List Bool) (held : List Place) (k : ℕ) (p : Place) → k ≡ place_index widest p → p ≡ source_at ts n
+    → HasPlace widest p → n < length ts → get_or flags k false ≡ true → AreHeldBelow ts n flags held → HasHeldSource ts
 held_one ts n flags held k p at e hp below up h = (p, ((n, below, sym e), ((h.unheld p hp).0 (sym (ap (λ (x : ℕ). get_or flags x false) at) ∙ up)).0))
 
 -- the next source is one more
-pub held_more : (ts : List Transfer) (n : ℕ) (flags down : List Bool) (held new : List Place) (k : ℕ) (p : Place) → down ≡ set flags k false → k ≡ place_index widest p → p ≡ source_at ts n → HasPlace widest p → n < length ts → k < length flags → get_or flags k false ≡ true → new ≡ held ++ p ∷ [] → AreHeldBelow ts n flags held → AreHeldBelow ts (n + 1) down new
+pub held_more : (ts : List Transfer) (n : ℕ) (flags down : List Bool) (held new : List Place) (k : ℕ) (p : Place) → down ≡ set flags k false → k
+    ≡ place_index widest p → p ≡ source_at ts n → HasPlace widest p → n < length ts → k < length flags → get_or flags k false ≡ true → new ≡ held ++ p ∷ []
+    → AreHeldBelow ts n flags held → AreHeldBelow ts (n + 1) down new
 held_more ts n flags down held new k p cleared at e hp below l up pushed h =
     let w = (h.unheld p hp).0 (sym (ap (λ (x : ℕ). get_or flags x false) at) ∙ up) in
     subst (λ (x : List Bool). AreHeldBelow ts (n + 1) x new) (sym (cleared ∙ ap (λ (x : ℕ). set flags x false) at))

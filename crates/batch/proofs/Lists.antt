@@ -18,16 +18,19 @@ at_cons x t xs (suc k, lt, at) = inr (k, omega arith, at)
 -- one list more of those that are joined
 pub concat_more : (lists : List (List ℕ)) (k : ℕ) → k < length lists → concat (take (k + 1) lists) ≡ concat (take k lists) ++ get_or lists k []
 concat_more lists k lt =
-    ap concat (take_more lists k [] lt) ∙ concat-append (take k lists) (get_or lists k [] ∷ []) ∙ ap (λ (xs : List ℕ). concat (take k lists) ++ xs) (append-nil (get_or lists k []))
+    ap concat (take_more lists k [] lt) ∙ concat-append (take k lists) (get_or lists k [] ∷ []) ∙ ap (λ (xs : List ℕ). concat (take k lists) ++ xs)
+    (append-nil (get_or lists k []))
 
 -- ---- lists of numbered parts, one after the other
 
 -- one number more
 pub range_more : (n : ℕ) → range_with_len 0 (n + 1) ≡ range_with_len 0 n ++ n ∷ []
-range_more n = sym (map-id (range_with_len 0 (n + 1))) ∙ map-range_with_len_more (λ (k : ℕ). k) 0 n n (omega arith) ∙ ap (λ (xs : List ℕ). xs ++ n ∷ []) (map-id (range_with_len 0 n))
+range_more n = sym (map-id (range_with_len 0 (n + 1))) ∙ map-range_with_len_more (λ (k : ℕ). k) 0 n n (omega arith) ∙ ap (λ (xs : List ℕ). xs ++ n ∷ [])
+    (map-id (range_with_len 0 n))
 
 -- one part more
-pub more_parts : (f : ℕ → List ℕ) (before : List ℕ) (i : ℕ) → (before ++ flat_map f (range_with_len 0 i)) ++ f i ≡ before ++ flat_map f (range_with_len 0 (i + 1))
+pub more_parts : (f : ℕ → List ℕ) (before : List ℕ) (i : ℕ) → (before ++ flat_map f (range_with_len 0 i)) ++ f i ≡ before
+    ++ flat_map f (range_with_len 0 (i + 1))
 more_parts f before i = flat_map_more f before (range_with_len 0 i) i ∙ ap (λ (x : List ℕ). before ++ flat_map f x) (sym (range_more i))
 
 -- ---- how often a number stands, after one was put at an end
@@ -72,9 +75,11 @@ pub list_at : (lists : List (Vec ℕ)) (k : ℕ) (v : Vec ℕ) → k < length li
 list_at lists k v lt is = get_or-map (λ w. w.items) lists k v [] lt ∙ ap (λ (w : Vec ℕ). w.items) (sym is)
 
 -- one number more at the end of a list
-pub pushed_into : (lists : List (Vec ℕ)) (k t : ℕ) (v w : Vec ℕ) → k < length lists → v ≡ get_or lists k v → w.items ≡ v.items ++ t ∷ [] → items_of (set lists k w) ≡ set (items_of lists) k (get_or (items_of lists) k [] ++ t ∷ [])
+pub pushed_into : (lists : List (Vec ℕ)) (k t : ℕ) (v w : Vec ℕ) → k < length lists → v ≡ get_or lists k v → w.items ≡ v.items ++ t ∷ []
+    → items_of (set lists k w) ≡ set (items_of lists) k (get_or (items_of lists) k [] ++ t ∷ [])
 pushed_into lists k t v w lt is pushed =
-    map-set (λ x. x.items) lists k w ∙ ap (λ (xs : List ℕ). set (items_of lists) k xs) (pushed ∙ ap (λ (xs : List ℕ). xs ++ t ∷ []) (sym (list_at lists k v lt is)))
+    map-set (λ x. x.items) lists k w ∙ ap (λ (xs : List ℕ). set (items_of lists) k xs)
+    (pushed ∙ ap (λ (xs : List ℕ). xs ++ t ∷ []) (sym (list_at lists k v lt is)))
 
 -- one list more, of one number
 pub pushed_alone : (lists all : List (Vec ℕ)) (t : ℕ) (v : Vec ℕ) → all ≡ lists ++ v ∷ [] → v.items ≡ t ∷ [] → items_of all ≡ items_of lists ++ (t ∷ []) ∷ []

@@ -37,5 +37,8 @@ value_fits ds k digits short = digits_value_short own ds k digits short
 
 -- digits of this form are those of their value
 pub spelled : (ds : List ℕ) → HasForm ds → ds ≡ decimal (digits_value 10 ds)
-spelled ds f = sym (decimal-digits_value own ds f.digits f.nonempty f.leading (let small : digits_value 10 ds < 10 ^ MAX_DIGITS = value_fits ds MAX_DIGITS f.digits f.short in omega arith))
+spelled ds f =
+    sym (decimal-digits_value own ds f.digits f.nonempty f.leading (let small : digits_value 10 ds < 10 ^ MAX_DIGITS =
+    value_fits ds MAX_DIGITS f.digits f.short in omega arith))
+
 -- ---- the grammar of a number

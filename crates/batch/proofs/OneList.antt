@@ -15,11 +15,15 @@ use Rattle.batch.proofs.Lines.{Tells, one_number, one_line, some_line, ends_line
 module _ {Thing : Type 0} (form : Form Thing) where
   pub one_head : (n m : ℕ) (x y : List ℕ) → IsNumber n → IsNumber m → head form n ++ x ≡ head form m ++ y → (n ≡ m) × (x ≡ y)
   one_head n m x y ln lm same =
-      one_number n m line_feed x y ln lm ends_line (append_cancel_left form.heading _ _ (sym (append_assoc form.heading (number n line_feed) x) ∙ same ∙ append_assoc form.heading (number m line_feed) y))
+      one_number n m line_feed x y ln lm ends_line
+      (append_cancel_left form.heading _ _ (sym (append_assoc form.heading (number n line_feed) x) ∙ same ∙ append_assoc form.heading (number m line_feed)
+      y))
 
   pub spellable : (shape : ShapeView) (valid : IsShape shape) (x : Thing) → IsWithin form shape x → IsSpellable form x
-  spellable shape valid x w =
-      ((omega (arith, w.0.0, valid.few_modules), omega (arith, w.1.0, valid.few_blocks)), (omega (arith, w.0.1, valid.few_modules), omega (arith, w.1.1, valid.few_blocks)))
+  spellable shape valid x w = (
+    (omega (arith, w.0.0, valid.few_modules), omega (arith, w.1.0, valid.few_blocks)),
+    (omega (arith, w.0.1, valid.few_modules), omega (arith, w.1.1, valid.few_blocks)),
+  )
 
   -- the one list of more lines goes on from the other
   record GoesOn (shape : ShapeView) (xs ys : List Thing) (r s : List ℕ) : Type 0 where
@@ -39,16 +43,26 @@ module _ {Thing : Type 0} (form : Form Thing) where
   same_head text _ g p q = absurd p
 
 module _ {Thing : Type 0} (form : Form Thing) (tells : Tells form) (shape : ShapeView) (valid : IsShape shape) where
-  goes_on : (xs ys : List Thing) (r s : List ℕ) → All (IsWithin form shape) xs → All (IsWithin form shape) ys → length xs ≤ length ys → flat_map (line form) xs ++ r ≡ flat_map (line form) ys ++ s → GoesOn form shape xs ys r s
+  goes_on : (xs ys : List Thing) (r s : List ℕ) → All (IsWithin form shape) xs → All (IsWithin form shape) ys → length xs ≤ length ys → flat_map (line form) xs
+      ++ r ≡ flat_map (line form) ys ++ s → GoesOn form shape xs ys r s
   goes_on [] ys r s wx wy le same = record { more = ys; within = wy; list = refl; rest = same }
   goes_on (x ∷ xs) [] r s wx wy le same = absurd (omega arith)
   goes_on (x ∷ xs) (y ∷ ys) r s wx wy le same =
-      let one = one_line form tells x y (flat_map (line form) xs ++ r) (flat_map (line form) ys ++ s) (spellable form shape valid x (All-head (IsWithin form shape) x xs wx)) (spellable form shape valid y (All-head (IsWithin form shape) y ys wy)) (sym (append_assoc (line form x) (flat_map (line form) xs) r) ∙ same ∙ append_assoc (line form y) (flat_map (line form) ys) s) in
+      let one = one_line form tells x y (flat_map (line form) xs ++ r) (flat_map (line form) ys ++ s)
+      (spellable form shape valid x (All-head (IsWithin form shape) x xs wx)) (spellable form shape valid y (All-head (IsWithin form shape) y ys wy))
+      (sym (append_assoc (line form x) (flat_map (line form) xs) r) ∙ same ∙ append_assoc (line form y) (flat_map (line form) ys) s) in
       let rec = goes_on xs ys r s (All-tail (IsWithin form shape) x xs wx) (All-tail (IsWithin form shape) y ys wy) (omega arith) one.1 in
-      record { more = rec.more; within = rec.within; list = ap (λ (z : Thing). z ∷ ys) (sym one.0) ∙ ap (λ (zs : List Thing). x ∷ zs) rec.list; rest = rec.rest }
+      record {
+        more = rec.more;
+        within = rec.within;
+        list = ap (λ (z : Thing). z ∷ ys) (sym one.0) ∙ ap (λ (zs : List Thing). x ∷ zs) rec.list;
+        rest =
+            rec.rest;
+      }
 
   -- as many lines, and what follows them
-  pub same_lines : (xs ys : List Thing) (r s : List ℕ) → All (IsWithin form shape) xs → All (IsWithin form shape) ys → length xs ≡ length ys → flat_map (line form) xs ++ r ≡ flat_map (line form) ys ++ s → (xs ≡ ys) × (r ≡ s)
+  pub same_lines : (xs ys : List Thing) (r s : List ℕ) → All (IsWithin form shape) xs → All (IsWithin form shape) ys → length xs ≡ length ys
+      → flat_map (line form) xs ++ r ≡ flat_map (line form) ys ++ s → (xs ≡ ys) × (r ≡ s)
   same_lines xs ys r s wx wy len same =
       let g = goes_on xs ys r s wx wy (omega arith) same in
       let none : g.more ≡ [] = nil_from_length g.more (omega (arith, ap length g.list, length-append xs g.more)) in
@@ -59,7 +73,8 @@ module _ {Thing : Type 0} (form : Form Thing) (tells : Tells form) (shape : Shap
   begins_same rest x y a b p q = (one_line form tells x y a b p.0 q.0 (sym p.1 ∙ q.1)).0
 
   -- where a line stands as it should there is no fault
-  refuted : (t : ℕ) (x : Thing) (after rest : List ℕ) (f : BatchFault) → IsWithin form shape x → rest ≡ line form x ++ after → IsLineFault form shape t rest f → ⊥
+  refuted : (t : ℕ) (x : Thing) (after rest : List ℕ) (f : BatchFault) → IsWithin form shape x → rest ≡ line form x ++ after → IsLineFault form shape t rest f
+      → ⊥
   refuted t x after rest Count w e fault = some_line form x after (sym e ∙ fault)
   refuted t x after rest (Line n) w e fault = fault.2 x after (spellable form shape valid x w, e)
   refuted t x after rest (NoModule n) w e fault =
@@ -70,9 +85,11 @@ module _ {Thing : Type 0} (form : Form Thing) (tells : Tells form) (shape : Shap
       f.missing (subst (HasBlocks form shape) (begins_same rest x f.thing after f.after (spellable form shape valid x w, e) f.begins) w.1)
   refuted t x after rest _ w e fault = fault
 
-  refuted_in : (t : ℕ) (more : List Thing) (after rest : List ℕ) (f : BatchFault) → All (IsWithin form shape) more → 0 < length more → rest ≡ flat_map (line form) more ++ after → IsLineFault form shape t rest f → ⊥
+  refuted_in : (t : ℕ) (more : List Thing) (after rest : List ℕ) (f : BatchFault) → All (IsWithin form shape) more → 0 < length more → rest
+      ≡ flat_map (line form) more ++ after → IsLineFault form shape t rest f → ⊥
   refuted_in t [] after rest f w some e fault = absurd (omega arith)
-  refuted_in t (x ∷ xs) after rest f w some e fault = refuted t x (flat_map (line form) xs ++ after) rest f (All-head (IsWithin form shape) x xs w) (e ∙ append_assoc (line form x) (flat_map (line form) xs) after) fault
+  refuted_in t (x ∷ xs) after rest f w some e fault = refuted t x (flat_map (line form) xs ++ after) rest f (All-head (IsWithin form shape) x xs w)
+      (e ∙ append_assoc (line form x) (flat_map (line form) xs) after) fault
 
   -- one fault of a line
   same_line : (t : ℕ) (rest : List ℕ) (f g : BatchFault) → IsLineFault form shape t rest f → IsLineFault form shape t rest g → f ≡ g
@@ -89,40 +106,52 @@ module _ {Thing : Type 0} (form : Form Thing) (tells : Tells form) (shape : Shap
   same_line t rest (NoModule m) Count p q = absurd (some_line form p.1.thing p.1.after (sym p.1.begins.1 ∙ q))
   same_line t rest (NoModule m) (Line n) p q = absurd (q.2 p.1.thing p.1.after p.1.begins)
   same_line t rest (NoModule m) (NoModule n) p q = ap NoModule (p.0 ∙ sym q.0)
-  same_line t rest (NoModule m) (NoBlock n) p q = absurd (p.1.missing (subst (HasModules form shape) (begins_same rest q.1.thing p.1.thing q.1.after p.1.after q.1.begins p.1.begins) q.1.modules))
+  same_line t rest (NoModule m) (NoBlock n) p q =
+      absurd (p.1.missing (subst (HasModules form shape) (begins_same rest q.1.thing p.1.thing q.1.after p.1.after q.1.begins p.1.begins) q.1.modules))
   same_line t rest (NoModule m) _ p q = absurd q
   same_line t rest (NoBlock m) Count p q = absurd (some_line form p.1.thing p.1.after (sym p.1.begins.1 ∙ q))
   same_line t rest (NoBlock m) (Line n) p q = absurd (q.2 p.1.thing p.1.after p.1.begins)
-  same_line t rest (NoBlock m) (NoModule n) p q = absurd (q.1.missing (subst (HasModules form shape) (begins_same rest p.1.thing q.1.thing p.1.after q.1.after p.1.begins q.1.begins) p.1.modules))
+  same_line t rest (NoBlock m) (NoModule n) p q =
+      absurd (q.1.missing (subst (HasModules form shape) (begins_same rest p.1.thing q.1.thing p.1.after q.1.after p.1.begins q.1.begins) p.1.modules))
   same_line t rest (NoBlock m) (NoBlock n) p q = ap NoBlock (p.0 ∙ sym q.0)
   same_line t rest (NoBlock m) _ p q = absurd q
   same_line t rest _ g p q = absurd p
 
   -- ---- two readings of a text, each good up to some place
 
-  same_behind : {text : List ℕ} {n m : ℕ} {xs ys : List Thing} {r s : List ℕ} → IsGoodUpTo form shape text n xs r → IsGoodUpTo form shape text m ys s → (n ≡ m) × (flat_map (line form) xs ++ r ≡ flat_map (line form) ys ++ s)
+  same_behind : {text : List ℕ} {n m : ℕ} {xs ys : List Thing} {r s : List ℕ} → IsGoodUpTo form shape text n xs r → IsGoodUpTo form shape text m ys s → (n ≡ m)
+      × (flat_map (line form) xs ++ r ≡ flat_map (line form) ys ++ s)
   same_behind {n = n} {m = m} p q = one_head form n m _ _ (omega (arith, p.allowed)) (omega (arith, q.allowed)) (sym p.spelled ∙ q.spelled)
 
-  same_rest : {text : List ℕ} {n m : ℕ} {xs ys : List Thing} {r s : List ℕ} → IsGoodUpTo form shape text n xs r → IsGoodUpTo form shape text m ys s → length xs ≡ length ys → (xs ≡ ys) × (r ≡ s)
+  same_rest : {text : List ℕ} {n m : ℕ} {xs ys : List Thing} {r s : List ℕ} → IsGoodUpTo form shape text n xs r → IsGoodUpTo form shape text m ys s → length xs
+      ≡ length ys → (xs ≡ ys) × (r ≡ s)
   same_rest p q len = same_lines _ _ _ _ p.within q.within len (same_behind p q).1
 
   -- no fault in the place of a line that is as it should be
-  earlier : {text : List ℕ} {n m : ℕ} {xs ys : List Thing} {r s : List ℕ} (f : BatchFault) → IsGoodUpTo form shape text n xs r → IsGoodUpTo form shape text m ys s → length xs < length ys → IsLineFault form shape (length xs) r f → ⊥
+  earlier : {text : List ℕ} {n m : ℕ} {xs ys : List Thing} {r s : List ℕ} (f : BatchFault) → IsGoodUpTo form shape text n xs r
+      → IsGoodUpTo form shape text m ys s → length xs < length ys → IsLineFault form shape (length xs) r f → ⊥
   earlier {xs = xs} {ys = ys} {r = r} {s = s} f p q less fault =
       let g = goes_on xs ys r s p.within q.within (omega arith) (same_behind p q).1 in
       refuted_in (length xs) g.more s r f g.within (omega (arith, ap length g.list, length-append xs g.more)) g.rest fault
 
   -- nor where all lines are
-  complete : {text : List ℕ} {n m : ℕ} {xs ys : List Thing} {r s : List ℕ} (f : BatchFault) → IsGoodUpTo form shape text n xs r → IsGoodUpTo form shape text m ys s → length xs < n → length ys ≡ m → IsLineFault form shape (length xs) r f → ⊥
+  complete : {text : List ℕ} {n m : ℕ} {xs ys : List Thing} {r s : List ℕ} (f : BatchFault) → IsGoodUpTo form shape text n xs r
+      → IsGoodUpTo form shape text m ys s → length xs < n → length ys ≡ m → IsLineFault form shape (length xs) r f → ⊥
   complete f p q less all fault = earlier f p q (omega (arith, (same_behind p q).0)) fault
 
   head_refuted : {text : List ℕ} {n : ℕ} {xs : List Thing} {r : List ℕ} (f : BatchFault) → IsGoodUpTo form shape text n xs r → IsHeadFault form text f → ⊥
   head_refuted {n = n} (Line k) p fault = fault.1 n _ (omega (arith, p.allowed), p.spelled)
   head_refuted {n = n} TooMany p fault =
-      omega (arith, p.allowed, fault.too_many, (one_head form n fault.n _ fault.rest (omega (arith, p.allowed)) fault.headed.0 (sym p.spelled ∙ fault.headed.1)).0)
+      omega (
+        arith,
+        p.allowed,
+        fault.too_many,
+        (one_head form n fault.n _ fault.rest (omega (arith, p.allowed)) fault.headed.0 (sym p.spelled ∙ fault.headed.1)).0,
+      )
   head_refuted _ p fault = fault
 
-  two_lines : {text : List ℕ} {n m : ℕ} {xs ys : List Thing} {r s : List ℕ} (f g : BatchFault) → IsGoodUpTo form shape text n xs r → IsGoodUpTo form shape text m ys s → IsLineFault form shape (length xs) r f → IsLineFault form shape (length ys) s g → f ≡ g
+  two_lines : {text : List ℕ} {n m : ℕ} {xs ys : List Thing} {r s : List ℕ} (f g : BatchFault) → IsGoodUpTo form shape text n xs r
+      → IsGoodUpTo form shape text m ys s → IsLineFault form shape (length xs) r f → IsLineFault form shape (length ys) s g → f ≡ g
   two_lines {xs = xs} {ys = ys} {r = r} {s = s} f g p q one other =
       elim (cases_lt (length xs) (length ys)) [
         | inl less ↦ absurd (earlier f p q less one)
@@ -130,14 +159,21 @@ module _ {Thing : Type 0} (form : Form Thing) (tells : Tells form) (shape : Shap
           | inl less ↦ absurd (earlier g q p less other)
           | inr le ↦
               let at : length xs ≡ length ys = omega arith in
-              same_line (length ys) s f g (subst (λ (k : ℕ). IsLineFault form shape k s f) at (subst (λ (b : List ℕ). IsLineFault form shape (length xs) b f) (same_rest p q at).1 one)) other
+              same_line (length ys) s f g (subst (λ (k : ℕ). IsLineFault form shape k s f)
+              at (subst (λ (b : List ℕ). IsLineFault form shape (length xs) b f) (same_rest p q at).1 one)) other
         ]
       ]
 
   -- ---- the laws
 
   listed : (text : List ℕ) (xs : List Thing) → Denotes form shape text xs → IsGoodUpTo form shape text (length xs) xs []
-  listed text xs d = record { allowed = d.few; at_most = omega arith; within = d.within; spelled = d.spelled ∙ ap (λ (y : List ℕ). head form (length xs) ++ y) (sym (append-nil (flat_map (line form) xs))) }
+  listed text xs d = record {
+    allowed = d.few;
+    at_most = omega arith;
+    within = d.within;
+    spelled = d.spelled ∙ ap (λ (y : List ℕ). head form (length xs) ++ y)
+        (sym (append-nil (flat_map (line form) xs)));
+  }
 
   pub one_list : (text : List ℕ) (a b : List Thing) → Denotes form shape text a → Denotes form shape text b → a ≡ b
   one_list text a b da db = (same_rest (listed text a da) (listed text b db) (same_behind (listed text a da) (listed text b db)).0).0

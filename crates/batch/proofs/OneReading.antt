@@ -22,8 +22,11 @@ one_word Pull Push x y e = let other : 108 ≡ 115 = ap (λ (bs : List ℕ). get
 
 pub transfers_tell : Tells batch_form
 transfers_tell t u a b e =
-    let word = one_word t.kind u.kind a b e in
-    (word.1, λ first second. same_transfer_parts t u word.0 (ap (λ (p : Place). p.«module») first) (ap (λ (p : Place). p.block) first) (ap (λ (p : Place). p.«module») second) (ap (λ (p : Place). p.block) second))
+    let word = one_word t.kind u.kind a b e in (
+      word.1,
+      λ first second. same_transfer_parts t u word.0 (ap (λ (p : Place). p.«module») first) (ap (λ (p : Place). p.block) first)
+          (ap (λ (p : Place). p.«module») second) (ap (λ (p : Place). p.block) second),
+    )
 
 pub spellable : (shape : ShapeView) (valid : IsShape shape) (t : Transfer) → IsWithin shape t → IsSpellable t
 spellable = lists.spellable batch_form
@@ -31,7 +34,8 @@ spellable = lists.spellable batch_form
 pub one_head : (n m : ℕ) (x y : List ℕ) → IsNumber n → IsNumber m → head n ++ x ≡ head m ++ y → (n ≡ m) × (x ≡ y)
 one_head = lists.one_head batch_form
 
-pub same_lines : (shape : ShapeView) (valid : IsShape shape) (ts us : List Transfer) (r s : List ℕ) → All (IsWithin shape) ts → All (IsWithin shape) us → length ts ≡ length us → flat_map line ts ++ r ≡ flat_map line us ++ s → (ts ≡ us) × (r ≡ s)
+pub same_lines : (shape : ShapeView) (valid : IsShape shape) (ts us : List Transfer) (r s : List ℕ) → All (IsWithin shape) ts → All (IsWithin shape) us
+    → length ts ≡ length us → flat_map line ts ++ r ≡ flat_map line us ++ s → (ts ≡ us) × (r ≡ s)
 same_lines = lists.same_lines batch_form transfers_tell
 
 pub one_batch : OneBatch

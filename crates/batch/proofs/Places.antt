@@ -37,7 +37,14 @@ HasPlace-place_at s k h l = record {
 }
 
 -- a transfer within a shape has its blocks there
-by_kind_within : (s : ShapeView) (k : Kind) (i o r f : ℕ) → let t : Transfer = record { kind = k; initiator = i; own_block = o; responder = r; far_block = f } in IsWithin s t → HasPlace s (source_of t) × HasPlace s (destination_of t)
+by_kind_within : (s : ShapeView) (k : Kind) (i o r f : ℕ) → let t : Transfer = record {
+  kind = k;
+  initiator = i;
+  own_block = o;
+  responder = r;
+  far_block =
+      f;
+} in IsWithin s t → HasPlace s (source_of t) × HasPlace s (destination_of t)
 by_kind_within s Push i o r f w = (record { in_modules = w.0.0; in_blocks = w.1.0 }, record { in_modules = w.0.1; in_blocks = w.1.1 })
 by_kind_within s Pull i o r f w = (record { in_modules = w.0.1; in_blocks = w.1.1 }, record { in_modules = w.0.0; in_blocks = w.1.0 })
 

@@ -1,6 +1,7 @@
 -- Which blocks of a batch are held sources: they have to be copied before any word moves. This
 -- project's choice.
-use Rattle.std.specs.Prelude.{ℕ, Bool, true, false, ◌≡◌, ◌≢◌, ◌<◌, ◌↔◌, ◌==◌, ◌&&◌, ◌||◌, List, [], ◌∷◌, length, Contains, AllPairs}
+use Rattle.std.specs.Prelude.{ℕ, Bool, true, false, ◌≡◌, ◌≢◌, ◌<◌, ◌↔◌, ◌==◌, ◌&&◌, ◌||◌, List, []}
+use Rattle.std.specs.Prelude.{◌∷◌, length, Contains, AllPairs}
 use Rattle.batch.specs.declared.transfer.Place.{Place}
 use Rattle.batch.specs.declared.transfer.Transfer.{Transfer}
 use Rattle.batch.specs.Places.{destination_of}

@@ -11,7 +11,8 @@ use Rattle.batch.specs.Overlap.{IsApart, IsFirstOverlap}
 -- a text denotes at most one batch
 abbrev pub OneBatch : Type 0
 OneBatch =
-    (shape : ShapeView) → IsShape shape → (text : List ℕ) (a b : List Transfer) → Denotes shape text a
+    (shape : ShapeView) → IsShape shape → (text : List ℕ) (a b : List Transfer)
+    → Denotes shape text a
     → Denotes shape text b → a ≡ b
 
 -- a text that denotes a batch has no first fault

@@ -3,7 +3,8 @@ use Rattle.std.specs.Prelude.{◌≡◌, ◌≢◌, ℕ, ◌<◌, ◌≤◌, ◌
 use Rattle.std.specs.List.{flat_map}
 use Rattle.batch.specs.declared.limits.TheConstants.{MAX_TRANSFERS}
 use Rattle.batch.specs.declared.fault.BatchFault.{BatchFault}
-use Rattle.batch.specs.declared.fault.BatchFault.TheVariants.{Line, TooMany, NoModule, NoBlock, Count, NoMemory}
+use Rattle.batch.specs.declared.fault.BatchFault.TheVariants.{Line, TooMany, NoModule, NoBlock}
+use Rattle.batch.specs.declared.fault.BatchFault.TheVariants.{Count, NoMemory}
 use Rattle.batch.specs.declared.transfer.Place.{Place}
 use Rattle.batch.specs.ShapeView.{ShapeView}
 use Rattle.batch.specs.Numbers.{IsNumber}
@@ -80,8 +81,8 @@ module _ {Thing : Type 0} (form : Form Thing) (shape : ShapeView) where
   IsLineFault t rest (NoBlock k) = (k ≡ t) × NamesNoBlock rest
   IsLineFault t rest _ = ⊥
 
-  -- The text announces n things, which is allowed. The lines of xs, the first of these, stand there,
-  -- and then the rest. The shape has what they name.
+  -- The text announces n things, which is allowed. The lines of xs, the first of these, stand
+  -- there, and then the rest. The shape has what they name.
   pub record IsGoodUpTo (text : List ℕ) (n : ℕ) (xs : List Thing) (rest : List ℕ) : Type 0 where
     pub allowed : n ≤ MAX_TRANSFERS
     pub at_most : length xs ≤ n

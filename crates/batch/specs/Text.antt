@@ -1,5 +1,6 @@
 -- The text of a batch. The form is this project's choice.
-pub use Rattle.batch.specs.Numbers.{IsNumber, IsDigit, IsNumeral, SpellsNumber, BeginsWithNoNumber, number, space, line_feed}
+pub use Rattle.batch.specs.Numbers.{IsNumber, IsDigit, IsNumeral, SpellsNumber, BeginsWithNoNumber}
+pub use Rattle.batch.specs.Numbers.{number, space, line_feed}
 use Rattle.std.specs.Prelude.{ℕ, List, codes}
 use Rattle.batch.specs.declared.transfer.Kind.{Kind}
 use Rattle.batch.specs.declared.transfer.Kind.TheVariants.{Push, Pull}

@@ -2,7 +2,8 @@
 
 ghost use Rattle.std.specs.Prelude.{◌≡◌};
 ghost use Rattle.batch.specs.ShapeView.{widest};
-ghost use Rattle.batch.specs.Laws.{NeverBoth, OneBatch, OneFault, NoneOverlap, OneFirstOverlap, OneShape};
+ghost use Rattle.batch.specs.Laws.{NeverBoth, OneBatch, OneFault, NoneOverlap, OneFirstOverlap};
+ghost use Rattle.batch.specs.Laws.{OneShape};
 
 use crate::shape::Shape;
 

@@ -35,10 +35,11 @@ mod written;
 
 pub use batch::Batch;
 pub use fault::{BatchFault, ShapeFault};
-pub use limits::{MAX_BLOCKS, MAX_DIGITS, MAX_MODULES, MAX_TRANSFERS, MAX_WORDS};
+pub use limits::{MAX_BLOCKS, MAX_DIGITS, MAX_MODULES, MAX_RACK_BLOCKS, MAX_TRANSFERS, MAX_WORDS};
 pub use list_reading::read_list;
 pub use list_writing::write_list;
 pub use listed::Listed;
+pub use overlap::widest_index;
 pub use reading::{number_before, number_from_digits, position_of};
 pub use shape::Shape;
 pub use transfer::{Kind, Place, Transfer};

@@ -6,6 +6,9 @@ pub const MAX_MODULES: usize = 32;
 /// The most blocks that each module of a rack may have.
 pub const MAX_BLOCKS: usize = 64;
 
+/// How many blocks a rack of the most modules has.
+pub const MAX_RACK_BLOCKS: usize = MAX_MODULES * MAX_BLOCKS;
+
 /// The most words that each block may have. A word has 32 bits.
 pub const MAX_WORDS: usize = 256;
 

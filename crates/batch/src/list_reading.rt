@@ -4,7 +4,9 @@
 ghost use Rattle.std.specs.Prelude.{◌≡◌, ◌<◌, ◌++◌, IfSome, IfNone, IfOk, IfErr};
 ghost use Rattle.batch.specs.Numbers.{IsDigit};
 ghost use Rattle.batch.specs.Lists.{Denotes, IsWithin, line};
-ghost use Rattle.batch.specs.ListFaults.{BeginsWithLine, BeginsWithNoLine, BeginsWithNoPlace, BeginsWithPlace, ButForMemory, ForMemory, HasNoHead, IsFirstFault, IsHeaded, IsLineFault, NeedsMemory};
+ghost use Rattle.batch.specs.ListFaults.{BeginsWithLine, BeginsWithNoLine, BeginsWithNoPlace};
+ghost use Rattle.batch.specs.ListFaults.{BeginsWithPlace, ButForMemory, ForMemory, HasNoHead};
+ghost use Rattle.batch.specs.ListFaults.{IsFirstFault, IsHeaded, IsLineFault, NeedsMemory};
 
 use crate::fault::BatchFault;
 use crate::limits::MAX_TRANSFERS;

@@ -6,11 +6,8 @@ ghost use Rattle.batch.specs.Places.{HasPlace, place_index};
 ghost use Rattle.batch.specs.Overlap.{IsApart, IsFirstOverlap};
 
 use crate::batch::Batch;
-use crate::limits::{MAX_BLOCKS, MAX_MODULES};
+use crate::limits::{MAX_BLOCKS, MAX_RACK_BLOCKS};
 use crate::transfer::Place;
-
-/// How many blocks the widest shape has.
-pub const MAX_RACK_BLOCKS: usize = MAX_MODULES * MAX_BLOCKS;
 
 impl Batch {
     /// The first two transfers that overlap: both write one block. The first number is as small as

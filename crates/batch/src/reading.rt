@@ -1,6 +1,7 @@
 //! The numbers of a text, read from the left. Each reader gives what it has read and the rest.
 
-ghost use Rattle.std.specs.Prelude.{◌≡◌, ◌≢◌, ℕ, ◌<◌, ◌++◌, IfSome, IfNone, length, position, ◌==◌, ◌↔◌, IsTrue, slice_index};
+ghost use Rattle.std.specs.Prelude.{◌≡◌, ◌≢◌, ℕ, ◌<◌, ◌++◌, IfSome, IfNone, length, position, ◌==◌};
+ghost use Rattle.std.specs.Prelude.{◌↔◌, IsTrue, slice_index};
 ghost use Rattle.std.specs.Fmt.{decimal};
 ghost use Rattle.batch.specs.Numbers.{BeginsWithNoNumber, IsNumber, IsDigit, number};
 

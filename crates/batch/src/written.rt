@@ -8,7 +8,8 @@ ghost use Rattle.batch.specs.Text.{IsWithin};
 ghost use Rattle.batch.specs.Written.{AreWritten};
 
 use crate::batch::Batch;
-use crate::overlap::{MAX_RACK_BLOCKS, widest_index};
+use crate::limits::MAX_RACK_BLOCKS;
+use crate::overlap::widest_index;
 use crate::transfer::{Place, Transfer};
 use std::marker::Model;
 

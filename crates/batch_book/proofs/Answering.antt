@@ -23,7 +23,8 @@ use Rattle.batch_book.specs.declared.reply.Reply.{Reply}
 use Rattle.batch_book.specs.declared.reply.Reply.TheVariants as reply
 use Rattle.batch_book.specs.declared.call.Call.{Call}
 use Rattle.batch_book.specs.declared.call.Call.TheVariants.{Submit, Fetch, Settle, Run, Show, Discard, Peek, Poke}
-use Rattle.batch_book.specs.Machine.{Machine, opened, owned, batch_of, Gives, accept, refuse, fetch, settle_at, settle, show, discard, peek_unless, poke_unless, IsRunOf, IsRunAt, IsRunStep, IsMachineStep}
+use Rattle.batch_book.specs.Machine.{Machine, opened, owned, batch_of, Gives, accept, refuse, fetch, settle_at, settle, show, discard, peek_unless, poke_unless, IsRunOf, IsRunAt, IsRunStep}
+use Rattle.batch_book.specs.Machine.{IsMachineStep}
 use Rattle.batch_book.specs.History.{BookView, IsReplay, IsGrown, HasOwnPlan, HaveOwnPlans, IsSound}
 use Rattle.batch_book.specs.Replies.{is_logged}
 use Rattle.batch_book.specs.Answering.{IsReplyTo}
@@ -61,7 +62,8 @@ quiet m call r fits number = record { fits = fits; number = number }
 gives : (m : Machine) (call : Call) (answer : Reply × Machine) (r : Reply) (n : Machine) → IsAnswer m call answer.0 → Gives answer r n → IsAnswer m call r
 gives m call answer r n is given = subst (IsAnswer m call) (sym given.0) is
 
-submit_if : (m : Machine) (session : ℕ) (batch : List Transfer) (b : Bool) → IsAnswer m (Submit batch) (if b then accept m session batch else refuse m BookFull).0
+submit_if : (m : Machine) (session : ℕ) (batch : List Transfer) (b : Bool)
+    → IsAnswer m (Submit batch) (if b then accept m session batch else refuse m BookFull).0
 submit_if m session batch true = quiet m (Submit batch) _ (omega arith) tt
 submit_if m session batch false = quiet m (Submit batch) _ tt tt
 
@@ -75,7 +77,8 @@ settle_stage m id plan (stage.Planned other) = quiet m (Settle id plan) _ tt tt
 settle_stage m id plan stage.Ran = quiet m (Settle id plan) _ tt tt
 settle_stage m id plan stage.Stopped = quiet m (Settle id plan) _ tt tt
 
-settle_if : (m : Machine) (id : ℕ) (plan : Plan) (s : BatchStage) (b : Bool) → IsAnswer m (Settle id plan) (if b then settle_at m id plan s else refuse m Stranger).0
+settle_if : (m : Machine) (id : ℕ) (plan : Plan) (s : BatchStage) (b : Bool)
+    → IsAnswer m (Settle id plan) (if b then settle_at m id plan s else refuse m Stranger).0
 settle_if m id plan s true = settle_stage m id plan s
 settle_if m id plan s false = quiet m (Settle id plan) _ tt tt
 
@@ -119,7 +122,8 @@ run_of m id plan (reply.Ran run settings words) n shape good is =
     (record {
       number = omega arith;
       few_settings = omega arith;
-      few_words = subst (λ w. w ≤ MAX_TRANSFERS * MAX_WORDS) (sym is.1.all_moved) (mul-le (length plan.batch) m.store.shape.words MAX_TRANSFERS MAX_WORDS batch shape.few_words);
+      few_words = subst (λ w. w ≤ MAX_TRANSFERS * MAX_WORDS) (sym is.1.all_moved) (mul-le (length plan.batch) m.store.shape.words MAX_TRANSFERS MAX_WORDS batch
+          shape.few_words);
     })
     number
 run_of m id plan (reply.Stopped run setting cause moved) n shape good is =
@@ -130,13 +134,15 @@ run_of m id plan (reply.Stopped run setting cause moved) n shape good is =
     quiet m (Run id) _ (record { number = omega arith; few_settings = omega arith }) number
 run_of m id plan r n shape good is = absurd is
 
-run_at : (m : Machine) (id : ℕ) (s : BatchStage) (r : Reply) (n : Machine) → IsShape m.store.shape → ((plan : Plan) → s ≡ stage.Planned plan → IsPlan plan) → IsRunAt m id s r n → IsAnswer m (Run id) r
+run_at : (m : Machine) (id : ℕ) (s : BatchStage) (r : Reply) (n : Machine) → IsShape m.store.shape → ((plan : Plan) → s ≡ stage.Planned plan → IsPlan plan)
+    → IsRunAt m id s r n → IsAnswer m (Run id) r
 run_at m id stage.Waiting r n shape good is = gives m (Run id) (refuse m Unplanned) r n (quiet m (Run id) _ tt tt) is
 run_at m id (stage.Planned plan) r n shape good is = run_of m id plan r n shape (good plan refl) is
 run_at m id stage.Ran r n shape good is = gives m (Run id) (refuse m Already) r n (quiet m (Run id) _ tt tt) is
 run_at m id stage.Stopped r n shape good is = gives m (Run id) (refuse m Already) r n (quiet m (Run id) _ tt tt) is
 
-run : (m : Machine) (id : ℕ) (h : Option StoredBatch) (r : Reply) (n : Machine) → IsShape m.store.shape → IfSome h HasOwnPlan → IsRunStep m id h r n → IsAnswer m (Run id) r
+run : (m : Machine) (id : ℕ) (h : Option StoredBatch) (r : Reply) (n : Machine) → IsShape m.store.shape → IfSome h HasOwnPlan → IsRunStep m id h r n
+    → IsAnswer m (Run id) r
 run m id None r n shape good is = gives m (Run id) (refuse m Unknown) r n (quiet m (Run id) _ tt tt) is
 run m id (Some h) r n shape good is = run_at m id h.stage r n shape (λ plan staged. (good plan staged).0) is
 
@@ -149,8 +155,10 @@ answered m session (Settle id plan) r n sound is = gives m (Settle id plan) _ r 
 answered m session (Run id) r n sound is = run m id (batch_of m session id) r n sound.shape (own_found m session id sound.plans) is
 answered m session (Show id) r n sound is = gives m (Show id) _ r n (show_of m id (batch_of m session id)) is
 answered m session (Discard id) r n sound is = gives m (Discard id) _ r n (discard_of m id (batch_of m session id)) is
-answered m session (Peek «module» address) r n sound is = gives m (Peek «module» address) _ r n (peek_of m «module» address (fault_of m.store.shape «module» address)) is
-answered m session (Poke «module» address word) r n sound is = gives m (Poke «module» address word) _ r n (poke_of m «module» address word (fault_of m.store.shape «module» address)) is
+answered m session (Peek «module» address) r n sound is = gives m (Peek «module» address) _ r n
+    (peek_of m «module» address (fault_of m.store.shape «module» address)) is
+answered m session (Poke «module» address word) r n sound is = gives m (Poke «module» address word) _ r n
+    (poke_of m «module» address word (fault_of m.store.shape «module» address)) is
 
 -- the value of the reply is no greater than that of the next run can be
 pub value_below : (m : Machine) (c : Call) (r : Reply) → IsAnswer m c r → m.runs ≤ MAX_NUMBER → value_of r < RUN_STEP * (MAX_NUMBER + 2)
@@ -167,12 +175,14 @@ unlogged c (reply.Refused HistoryFull) is = tt
 unlogged c (reply.Refused NoMemory) is = tt
 unlogged c r is = absurd (cc)
 
-replied_by : (old : BookView) (session : ℕ) (c : Call) (r : Reply) (new : BookView) (b : Bool) → is_logged r ≡ b → IsSound old.machine → (is_logged r ≡ true → IsGrown old session c r new) → IsReplyTo c r
+replied_by : (old : BookView) (session : ℕ) (c : Call) (r : Reply) (new : BookView) (b : Bool) → is_logged r ≡ b → IsSound old.machine
+    → (is_logged r ≡ true → IsGrown old session c r new) → IsReplyTo c r
 replied_by old session c r new true is sound grown = (answered old.machine session c r new.machine sound (grown is).step).fits
 replied_by old session c r new false is sound grown = unlogged c r is
 
 -- the reply is one of its call's, whether the history has it or not
-pub replied : (old : BookView) (session : ℕ) (c : Call) (r : Reply) (new : BookView) → IsSound old.machine → (is_logged r ≡ true → IsGrown old session c r new) → IsReplyTo c r
+pub replied : (old : BookView) (session : ℕ) (c : Call) (r : Reply) (new : BookView) → IsSound old.machine → (is_logged r ≡ true → IsGrown old session c r new)
+    → IsReplyTo c r
 replied old session c r new = replied_by old session c r new (is_logged r) refl
 
 -- ---- every machine of a book

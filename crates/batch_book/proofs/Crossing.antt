@@ -1,4 +1,5 @@
--- An exchange may be shared, and a seat may go to another thread. In parts, since a search through all that they hold runs out of steps.
+-- An exchange may be shared, and a seat may go to another thread. In parts, since a search through
+-- all that they hold runs out of steps.
 use Rattle.std.proofs.Common.{rules}
 use Rattle.std.proofs.Crossing.{crosses}
 use Rattle.std.proofs.sync.Condvar.TheSendSync as condvar
@@ -80,7 +81,10 @@ module _ (L : RattleType) (n : ExchangeName.Ghosts L.Denot) (h : HistoryName.Gho
   keeper_send = keeper.the_send NotedEntry.the_row L ghosts h noted_send
 
   place_send : IsSend (SeatInner.the_field L n h l).row
-  place_send = struct_send (shape (SeatInner.the_type L n h l)) (access.the_field_send L n h l, (own.the_send NotedEntry.the_row L h noted_send, (search sendable depth 20, (search sendable depth 20, (search sendable depth 20, tt)))))
+  place_send = struct_send (shape (SeatInner.the_type L n h l)) (
+    access.the_field_send L n h l,
+    (own.the_send NotedEntry.the_row L h noted_send, (search sendable depth 20, (search sendable depth 20, (search sendable depth 20, tt)))),
+  )
 
   pub seat_send : IsSend (Seat.the_row L n h l)
   seat_send = let p = place_send in search sendable depth 20
@@ -93,7 +97,37 @@ module _ (L : RattleType) (n : ExchangeName.Ghosts L.Denot) (h : HistoryName.Gho
     waiting_send =
         let T = CommitQueue.the_type L E n h e f l in
         recorded_send (CommitQueue.the_field L E n h e f l).row _ _ T.to_one
-        (struct_send (shape T) (search (crosses, sendable) depth 40, (search sendable depth 20, (search sendable depth 20, (search sendable depth 20, (search sendable depth 20, (search sendable depth 20, (search sendable depth 20, (search sendable depth 20, (search sendable depth 20, (search sendable depth 20, (search (crosses, sendable) depth 40, (total.the_send L l, (keeper_send, (search (crosses, sendable) depth 20, tt)))))))))))))))
+        (struct_send (shape T) (
+          search (crosses, sendable) depth 40,
+          (
+            search sendable depth 20,
+            (
+              search sendable depth 20,
+              (
+                search sendable depth 20,
+                (
+                  search sendable depth 20,
+                  (
+                    search sendable depth 20,
+                    (
+                      search sendable depth 20,
+                      (
+                        search sendable depth 20,
+                        (
+                          search sendable depth 20,
+                          (
+                            search sendable depth 20,
+                            (search (crosses, sendable) depth 40, (total.the_send L l, (keeper_send, (search (crosses, sendable) depth 20, tt)))),
+                          ),
+                        ),
+                      ),
+                    ),
+                  ),
+                ),
+              ),
+            ),
+          ),
+        ))
 
   module _ (P W G H I : RattleType) (p : ConfigPort.Ghosts P.Denot) (w : WireMaker.Ghosts W.Denot I.Denot) (i : Wire.Ghosts I.Denot) where
     locked_send : (g : EntryLog.Ghosts H.Denot) → IsSend P → IsSend W → IsSend G → IsSend H → IsSend (LockedBook.the_row L P W G H I n h p w i g l)
@@ -102,46 +136,53 @@ module _ (L : RattleType) (n : ExchangeName.Ghosts L.Denot) (h : HistoryName.Gho
         recorded_send (LockedBook.the_field L P W G H I n h p w i g l).row _ _ T.to_one
         (struct_send (shape T) (book_send H g sh, (plant.the_field_send P W G sp sw sg, (total.the_send L l, (keeper_send, tt)))))
 
-    book_side_send : (E : RattleType) (e : PendingEntries.Ghosts E.Denot) (f : EntryLog.Ghosts E.Denot) → IsSend P → IsSend W → IsSend G → IsSend E → IsSend (BookState.the_row L P W G E I n l h p w i e f)
+    book_side_send : (E : RattleType) (e : PendingEntries.Ghosts E.Denot) (f : EntryLog.Ghosts E.Denot) → IsSend P → IsSend W → IsSend G → IsSend E
+        → IsSend (BookState.the_row L P W G E I n l h p w i e f)
     book_side_send E e f sp sw sg se =
         let T = BookState.the_type L P W G E I n l h p w i e f in
         let o = noted_list_send in
         recorded_send (BookState.the_field L P W G E I n l h p w i e f).row _ _ T.to_one
         (struct_send (shape T) (book_send E f se, (plant.the_field_send P W G sp sw sg, (search (crosses, sendable) depth 40, (search sendable depth 20, tt)))))
 
-    module _ (E Q : RattleType) (g : EntryLog.Ghosts H.Denot) (e : PendingEntries.Ghosts E.Denot) (f : EntryLog.Ghosts E.Denot) (q : Recorder.Ghosts Q.Denot) where
-      record_send : IsSend Q → IsSend (WriterState.the_row L H E Q n l h g e f q)
-      record_send s =
-          let T = WriterState.the_type L H E Q n l h g e f q in
-          let o = noted_list_send in
-          recorded_send (WriterState.the_field L H E Q n l h g e f q).row _ _ T.to_one
-          (struct_send (shape T) (s, (search (crosses, sendable) depth 40, (search (crosses, sendable) depth 40, (search (crosses, sendable) depth 40, tt)))))
+    module _ (E Q : RattleType) (g : EntryLog.Ghosts H.Denot) (e : PendingEntries.Ghosts E.Denot) (f : EntryLog.Ghosts E.Denot) (q : Recorder.Ghosts Q.Denot)
+      where
+        record_send : IsSend Q → IsSend (WriterState.the_row L H E Q n l h g e f q)
+        record_send s =
+            let T = WriterState.the_type L H E Q n l h g e f q in
+            let o = noted_list_send in
+            recorded_send (WriterState.the_field L H E Q n l h g e f q).row _ _ T.to_one
+            (struct_send (shape T) (s, (search (crosses, sendable) depth 40, (search (crosses, sendable) depth 40, (search (crosses, sendable) depth 40, tt)))))
 
-      detached_sync : IsSend P → IsSend W → IsSend G → IsSend E → IsSend Q → IsSync (GroupCommit.the_field L P W G H I E Q n l h p w i g e f q).row
-      detached_sync sp sw sg se sq =
-          struct_sync (shape (GroupCommit.the_type L P W G H I E Q n l h p w i g e f q)) (
-            mutex.the_sync _ (book_side_send E e f sp sw sg se),
-            (mutex.the_sync _ (waiting_send E e f), (condvar.the_field_sync, (condvar.the_field_sync, (mutex.the_sync _ (record_send sq), tt)))),
-          )
+        detached_sync : IsSend P → IsSend W → IsSend G → IsSend E → IsSend Q → IsSync (GroupCommit.the_field L P W G H I E Q n l h p w i g e f q).row
+        detached_sync sp sw sg se sq =
+            struct_sync (shape (GroupCommit.the_type L P W G H I E Q n l h p w i g e f q)) (
+              mutex.the_sync _ (book_side_send E e f sp sw sg se),
+              (mutex.the_sync _ (waiting_send E e f), (condvar.the_field_sync, (condvar.the_field_sync, (mutex.the_sync _ (record_send sq), tt)))),
+            )
 
-      sides_sync : IsSend P → IsSend W → IsSend G → IsSend H → IsSend E → IsSend Q → IsSync (Locks.the_field L P W G H I E Q n l h p w i g e f q).row
-      sides_sync sp sw sg sh se sq =
-          let T = Locks.the_type L P W G H I E Q n l h p w i g e f q in
-          enum_sync (enum.shape T) ((mutex.the_sync _ (locked_send g sp sw sg sh), tt), ((detached_sync sp sw sg se sq, tt), tt))
+        sides_sync : IsSend P → IsSend W → IsSend G → IsSend H → IsSend E → IsSend Q → IsSync (Locks.the_field L P W G H I E Q n l h p w i g e f q).row
+        sides_sync sp sw sg sh se sq =
+            let T = Locks.the_type L P W G H I E Q n l h p w i g e f q in
+            enum_sync (enum.shape T) ((mutex.the_sync _ (locked_send g sp sw sg sh), tt), ((detached_sync sp sw sg se sq, tt), tt))
 
-      pub any_shared_sync : IsSend P → IsSend W → IsSend G → IsSend H → IsSend E → IsSend Q → IsSync (Shared.the_row L P W G H I E Q n l h p w i g e f q)
-      any_shared_sync sp sw sg sh se sq =
-          let T = Inside.the_type L P W G H I E Q n l h p w i g e f q in
-          view_sync (Inside.the_row L P W G H I E Q n l h p w i g e f q) _ _ _ _
-          (recorded_sync (Inside.the_field L P W G H I E Q n l h p w i g e f q).row _ _ T.to_one
-          (struct_sync (shape T) (sides_sync sp sw sg sh se sq, (word.the_sync, (extent.the_sync, tt)))))
+        pub any_shared_sync : IsSend P → IsSend W → IsSend G → IsSend H → IsSend E → IsSend Q → IsSync (Shared.the_row L P W G H I E Q n l h p w i g e f q)
+        any_shared_sync sp sw sg sh se sq =
+            let T = Inside.the_type L P W G H I E Q n l h p w i g e f q in
+            view_sync (Inside.the_row L P W G H I E Q n l h p w i g e f q) _ _ _ _
+            (recorded_sync (Inside.the_field L P W G H I E Q n l h p w i g e f q).row _ _ T.to_one
+            (struct_sync (shape T) (sides_sync sp sw sg sh se sq, (word.the_sync, (extent.the_sync, tt)))))
 
   -- where the history is kept in memory
-  pub shared_sync : (P W G I : RattleType) (p : ConfigPort.Ghosts P.Denot) (w : WireMaker.Ghosts W.Denot I.Denot) (i : Wire.Ghosts I.Denot) → IsSend P → IsSend W → IsSend G
-      → IsSync (Shared.the_row L P W G MemoryHistory.the_row I NullHistory.the_row NoRecorder.the_row n l h p w i kept.ghosts silent.ghosts silent_log.ghosts no_recorder.ghosts)
-  shared_sync P W G I p w i sp sw sg = any_shared_sync P W G MemoryHistory.the_row I p w i NullHistory.the_row NoRecorder.the_row kept.ghosts silent.ghosts silent_log.ghosts no_recorder.ghosts sp sw sg kept_send silent_send no_recorder_send
+  pub shared_sync : (P W G I : RattleType) (p : ConfigPort.Ghosts P.Denot) (w : WireMaker.Ghosts W.Denot I.Denot) (i : Wire.Ghosts I.Denot) → IsSend P
+      → IsSend W → IsSend G
+      → IsSync (Shared.the_row L P W G MemoryHistory.the_row I NullHistory.the_row NoRecorder.the_row n l h p w i kept.ghosts silent.ghosts silent_log.ghosts
+      no_recorder.ghosts)
+  shared_sync P W G I p w i sp sw sg = any_shared_sync P W G MemoryHistory.the_row I p w i NullHistory.the_row NoRecorder.the_row kept.ghosts silent.ghosts
+      silent_log.ghosts no_recorder.ghosts sp sw sg kept_send silent_send no_recorder_send
 
 -- and port and wires never fail
 pub plain_sync : (L : RattleType) (n : ExchangeName.Ghosts L.Denot) (h : HistoryName.Ghosts L.Denot) (l : Ledger.Ghosts L.Denot)
-    → IsSync (Shared.the_row L MemoryPort.the_row PlainWires.the_row OpenGate.the_row MemoryHistory.the_row PlainWire.the_row NullHistory.the_row NoRecorder.the_row n l h port.ghosts wires.ghosts wire.ghosts kept.ghosts silent.ghosts silent_log.ghosts no_recorder.ghosts)
-plain_sync L n h l = shared_sync L n h l MemoryPort.the_row PlainWires.the_row OpenGate.the_row PlainWire.the_row port.ghosts wires.ghosts wire.ghosts memory_port.the_send plain_wires.the_send open_gate.the_send
+    → IsSync (Shared.the_row L MemoryPort.the_row PlainWires.the_row OpenGate.the_row MemoryHistory.the_row PlainWire.the_row NullHistory.the_row
+    NoRecorder.the_row n l h port.ghosts wires.ghosts wire.ghosts kept.ghosts silent.ghosts silent_log.ghosts no_recorder.ghosts)
+plain_sync L n h l = shared_sync L n h l MemoryPort.the_row PlainWires.the_row OpenGate.the_row PlainWire.the_row port.ghosts wires.ghosts wire.ghosts
+    memory_port.the_send plain_wires.the_send open_gate.the_send

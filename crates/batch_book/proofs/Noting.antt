@@ -1,11 +1,12 @@
 -- What is noted of calls.
-use Rattle.std.proofs.Common.{◌≡◌, ℕ, ◌+◌, ◌≤◌, max, List, [], ◌∷◌, ◌++◌, Bool, true, false, true≢false, All, get_or, cond, nat_eq, if◌then◌else◌, Option, Some, None, Result, Ok, Err, IfOk, is_err, ◌||◌, refl, sym, ap, ap₂, ◌==◌, ◌∙◌, subst, arith, append_assoc, append-nil}
+use Rattle.std.proofs.Common.{◌≡◌, ℕ, ◌+◌, ◌≤◌, max, List, [], ◌∷◌, ◌++◌, Bool, true, false, true≢false, All, get_or, cond, nat_eq, if◌then◌else◌, Option, Some, None, Result, Ok, Err, IfOk, is_err}
+use Rattle.std.proofs.Common.{◌||◌, refl, sym, ap, ap₂, ◌==◌, ◌∙◌, subst, arith, append_assoc, append-nil}
 use Rattle.std.proofs.lemmas.Bool.{or_left, or_right}
 use Rattle.std.proofs.lemmas.Grind.{flat_map-append}
 use Rattle.std.proofs.lemmas.List.Elements.{filter-append}
 use Rattle.crossbar.specs.declared.port.ConfigPort.{Ghosts}
 use Rattle.batch.specs.ShapeView.{ShapeView}
-use Rattle.setting_runner.specs.Plants.{LeavesPlant, Scheduled}
+use Rattle.setting_runner.specs.Plants.{LeavesPlant, RunSchedule}
 use Rattle.setting_runner.specs.Runs.{TellsOutcome}
 use Rattle.setting_runner.specs.declared.plant.Plant.{Plant}
 use Rattle.progress_word.specs.Watchers.{WatcherView}
@@ -56,7 +57,8 @@ plain_has (n ∷ ns) m plain = ap (λ (b : Bool). marks n || b) (plain_has ns m 
 pub told_mark : (ns : List Noted) (session : ℕ) → marked_in (ns ++ mark session ∷ []) ≡ made_in ns
 told_mark [] session = refl
 told_mark (n ∷ ns) session =
-    ap (λ (b : Bool). if b then made_by n ++ marked_in (ns ++ mark session ∷ []) else []) (mark_has (n ∷ ns) session) ∙ ap (λ (l : List Entry). made_by n ++ l) (told_mark ns session)
+    ap (λ (b : Bool). if b then made_by n ++ marked_in (ns ++ mark session ∷ []) else []) (mark_has (n ∷ ns) session) ∙ ap (λ (l : List Entry). made_by n ++ l)
+    (told_mark ns session)
 
 -- after what is no mark no more could be told than before
 pub told_plain : (ns : List Noted) (m : Noted) → marks m ≡ false → marked_in (ns ++ m ∷ []) ≡ marked_in ns
@@ -65,7 +67,8 @@ told_plain (n ∷ ns) m plain =
     ap (λ (b : Bool). if b then made_by n ++ marked_in (ns ++ m ∷ []) else []) (plain_has (n ∷ ns) m plain)
     ∙ ap (λ (l : List Entry). if has_mark (n ∷ ns) then made_by n ++ l else []) (told_plain ns m plain)
 
-told_if : (ns : List Noted) (session place : ℕ) (c : Call) (r : Reply) (b : Bool) → marked_in (ns ++ (if b then note session place c r ∷ [] else [])) ≡ marked_in ns
+told_if : (ns : List Noted) (session place : ℕ) (c : Call) (r : Reply) (b : Bool) → marked_in (ns ++ (if b then note session place c r ∷ [] else []))
+    ≡ marked_in ns
 told_if ns session place c r true = told_plain ns (note session place c r) refl
 told_if ns session place c r false = ap marked_in (append-nil ns)
 
@@ -88,32 +91,39 @@ told_front (n ∷ ns) = by (has_mark (n ∷ ns)) refl (told_front ns)
 
 -- ---- what a call adds to the history
 
-grown_if : (old new : BookView) (session : ℕ) (c : Call) (r : Reply) (b : Bool) → is_logged r ≡ b → IsAnswered old session c r new → new.history ≡ old.history ++ entry_if b (entry session c r)
+grown_if : (old new : BookView) (session : ℕ) (c : Call) (r : Reply) (b : Bool) → is_logged r ≡ b → IsAnswered old session c r new → new.history ≡ old.history
+    ++ entry_if b (entry session c r)
 grown_if old new session c r true is answered = (answered.grown is).history
 grown_if old new session c r false is answered = ap (λ (a : BookView). a.history) (answered.unlogged is) ∙ sym (append-nil old.history)
 
-pub grown_by : (old new : BookView) (session place : ℕ) (c : Call) (r : Result Reply Unrecorded) → Applies old session c r new → new.history ≡ old.history ++ made_in (noted session place c r)
+pub grown_by : (old new : BookView) (session place : ℕ) (c : Call) (r : Result Reply Unrecorded) → Applies old session c r new → new.history ≡ old.history
+    ++ made_in (noted session place c r)
 grown_by old new session place c (Ok reply) is =
-    grown_if old new session c reply (is_logged reply) refl is ∙ ap (λ (es : List Entry). old.history ++ es) (sym (made_noted_if (is_logged reply) session place c reply))
+    grown_if old new session c reply (is_logged reply) refl is ∙ ap (λ (es : List Entry). old.history ++ es)
+    (sym (made_noted_if (is_logged reply) session place c reply))
 grown_by old new session place c (Err lost) is = ap (λ (a : BookView). a.history) is.1 ∙ sym (append-nil old.history)
 
 pub kept_more : (earlier : List Entry) (notes : List Noted) (old new : BookView) (session place : ℕ) (c : Call) (r : Result Reply Unrecorded)
     → Applies old session c r new → old.history ≡ earlier ++ made_in notes → new.history ≡ earlier ++ made_in (notes ++ noted session place c r)
 kept_more earlier notes old new session place c r is kept =
     grown_by old new session place c r is ∙ (ap (λ (es : List Entry). es ++ made_in (noted session place c r)) kept
-    ∙ (append_assoc earlier (made_in notes) (made_in (noted session place c r)) ∙ ap (λ (es : List Entry). earlier ++ es) (sym (made_append notes (noted session place c r)))))
+    ∙ (append_assoc earlier (made_in notes) (made_in (noted session place c r)) ∙ ap (λ (es : List Entry). earlier ++ es)
+    (sym (made_append notes (noted session place c r)))))
 
 -- ---- values
 
-one_more : (notes : List Noted) (session place : ℕ) (c : Call) (r : Reply) → greatest (made_in (notes ++ note session place c r ∷ [])) ≡ max (greatest (made_in notes)) (value_of r)
+one_more : (notes : List Noted) (session place : ℕ) (c : Call) (r : Reply) → greatest (made_in (notes ++ note session place c r ∷ []))
+    ≡ max (greatest (made_in notes)) (value_of r)
 one_more notes session place c r = ap greatest (made_append notes (note session place c r ∷ [])) ∙ greatest_push (made_in notes) (entry session c r)
 
-greatest_if : (notes : List Noted) (session place : ℕ) (c : Call) (r : Reply) (b : Bool) → is_logged r ≡ b → greatest (made_in (notes ++ (if b then note session place c r ∷ [] else []))) ≡ max (greatest (made_in notes)) (value_of r)
+greatest_if : (notes : List Noted) (session place : ℕ) (c : Call) (r : Reply) (b : Bool) → is_logged r ≡ b
+    → greatest (made_in (notes ++ (if b then note session place c r ∷ [] else []))) ≡ max (greatest (made_in notes)) (value_of r)
 greatest_if notes session place c r true is = one_more notes session place c r
 greatest_if notes session place c r false is =
     let none = unlogged_value r is in let same = ap (λ (ns : List Noted). greatest (made_in ns)) (append-nil notes) in omega (arith, none, same)
 
-pub greatest_more : (notes : List Noted) (session place : ℕ) (c : Call) (r : Result Reply Unrecorded) → greatest (made_in (notes ++ noted session place c r)) ≡ max (greatest (made_in notes)) (value_made r)
+pub greatest_more : (notes : List Noted) (session place : ℕ) (c : Call) (r : Result Reply Unrecorded) → greatest (made_in (notes ++ noted session place c r))
+    ≡ max (greatest (made_in notes)) (value_made r)
 greatest_more notes session place c (Ok reply) = greatest_if notes session place c reply (is_logged reply) refl
 greatest_more notes session place c (Err lost) = let same = ap (λ (ns : List Noted). greatest (made_in ns)) (append-nil notes) in omega (arith, same)
 
@@ -126,7 +136,8 @@ first_below earlier true = omega arith
 first_below earlier false = omega arith
 
 -- a seat raises to no more than all entries tell of
-pub raised_below : (earlier : List Entry) (session : ℕ) (asked : List Entry) → greatest (raised_for earlier session asked) ≤ max (greatest earlier) (greatest asked)
+pub raised_below : (earlier : List Entry) (session : ℕ) (asked : List Entry) → greatest (raised_for earlier session asked) ≤ max (greatest earlier)
+    (greatest asked)
 raised_below earlier session asked =
     let first = first_below earlier (session == 0) in
     let both = greatest_append (if session == 0 then earlier else []) asked in
@@ -174,7 +185,8 @@ own_asked session (n ∷ ns) = by (nat_eq n.session session) refl (own_asked ses
     N = notes_of session ns
 
     by : (b : Bool) → nat_eq n.session session ≡ b → made_in N ≡ own session (made_in ns) → made_in (notes_of session (n ∷ ns)) ≡ own session (made_in (n ∷ ns))
-    by true is rest = ap (λ (b : Bool). made_in (cond b (n ∷ N) N)) is ∙ ap (λ (l : List Entry). made_by n ++ l) rest ∙ sym (own_behind session n (made_in ns) is)
+    by true is rest = ap (λ (b : Bool). made_in (cond b (n ∷ N) N)) is ∙ ap (λ (l : List Entry). made_by n ++ l) rest
+        ∙ sym (own_behind session n (made_in ns) is)
     by false is rest = ap (λ (b : Bool). made_in (cond b (n ∷ N) N)) is ∙ rest ∙ sym (own_past session n (made_in ns) is)
 
 none_told : (ns : List Noted) → has_mark ns ≡ false → marked_in ns ≡ []
@@ -194,7 +206,9 @@ own_mark session (n ∷ ns) some = by (nat_eq n.session session) refl (own_mark 
       where
         two : (m : Bool) → marks n ≡ m → has_mark (n ∷ ns) ≡ true
         two true its = or_left (marks n) (has_mark ns) its
-        two false its = or_right (marks n) (has_mark ns) (further (ap (λ (b : Bool). b || has_mark N) (sym its) ∙ ap (λ (b : Bool). has_mark (cond b (n ∷ N) N)) (sym is) ∙ some))
+        two false its =
+            or_right (marks n) (has_mark ns) (further (ap (λ (b : Bool). b || has_mark N) (sym its) ∙ ap (λ (b : Bool). has_mark (cond b (n ∷ N) N)) (sym is)
+            ∙ some))
     by false is further = or_right (marks n) (has_mark ns) (further (ap (λ (b : Bool). has_mark (cond b (n ∷ N) N)) (sym is) ∙ some))
 
 -- what could be told by its notes are the first of its own of what could be told by all
@@ -226,7 +240,8 @@ own_told session (n ∷ ns) = by (nat_eq n.session session) refl (own_told sessi
             let marked : has_mark (n ∷ ns) ≡ true = own_mark session (n ∷ ns) (ap has_mark own_is ∙ some) in
             let its : marked_in mine ≡ made_by n ++ marked_in N = ap marked_in own_is ∙ ap (λ (b : Bool). if b then made_by n ++ marked_in N else []) some in (
               rest.0,
-              ap (own session) (told_some marked) ∙ own_behind session n (marked_in ns) is ∙ ap (λ (l : List Entry). made_by n ++ l) rest.1 ∙ sym (append_assoc (made_by n) (marked_in N) rest.0)
+              ap (own session) (told_some marked) ∙ own_behind session n (marked_in ns) is ∙ ap (λ (l : List Entry). made_by n ++ l) rest.1
+                  ∙ sym (append_assoc (made_by n) (marked_in N) rest.0)
                   ∙ ap (λ (l : List Entry). l ++ rest.0) (sym its),
             )
     by false is rest = two (has_mark (n ∷ ns)) refl
@@ -254,7 +269,8 @@ recorded s notes told =
 pub recorded_more : (told more : List Entry) (s : SeatState) → IsRecorded told s → IsRecorded (told ++ more) s
 recorded_more told more s is = starts_then s.log (own s.session told) _ is (starts (own s.session told) _ (own s.session more) (own_append s.session told more))
 
-pub all_recorded : (notes : List Noted) (more : List Entry) (seats : List SeatState) → All (LogAgrees notes) seats → All (IsRecorded (marked_in notes ++ more)) seats
+pub all_recorded : (notes : List Noted) (more : List Entry) (seats : List SeatState) → All (LogAgrees notes) seats → All (IsRecorded (marked_in notes ++ more))
+    seats
 all_recorded notes more seats all = λ k d less. recorded_more (marked_in notes) more (get_or seats k d) (recorded (get_or seats k d) notes (all k d less))
 
 greatest_cond : (e : Entry) (es xs : List Entry) → greatest xs ≤ greatest es → (b : Bool) → greatest (cond b (e ∷ xs) xs) ≤ greatest (e ∷ es)
@@ -268,7 +284,8 @@ greatest_own session (e ∷ es) = greatest_cond e es (own session es) (greatest_
 
 -- ---- a call of the exchange
 
-pub replied_made : (old new : BookView) (session : ℕ) (c : Call) (r : Result Reply Unrecorded) → IsSound old.machine → Applies old session c r new → IfOk r (IsReplyTo c)
+pub replied_made : (old new : BookView) (session : ℕ) (c : Call) (r : Result Reply Unrecorded) → IsSound old.machine → Applies old session c r new
+    → IfOk r (IsReplyTo c)
 replied_made old new session c (Ok reply) sound is = replied old session c reply new sound is.grown
 replied_made old new session c (Err lost) sound is = tt
 
@@ -298,7 +315,8 @@ asked o p session place parts after broken breaks notes list c r reaches quiet s
 }
 
 -- where the reply can be told at once
-pub asked_all : (old new all : SeatState) (c : Call) (r : Result Reply Unrecorded) → IsAsked old c r new → IsPrefix new.log new.asked → all ≡ record new { log = new.asked } → IsAsked old c r all
+pub asked_all : (old new all : SeatState) (c : Call) (r : Result Reply Unrecorded) → IsAsked old c r new → IsPrefix new.log new.asked → all
+    ≡ record new { log = new.asked } → IsAsked old c r all
 asked_all old new all c r is front same =
     subst (IsAsked old c r) (sym same) record {
       seat = record { exchange = is.seat.exchange; session = is.seat.session; parts = is.seat.parts };
@@ -310,11 +328,14 @@ asked_all old new all c r is front same =
       broken = is.broken;
     }
 
-pub unstopped_made : {P W G : Type 0} (seen : Ghosts P) (sure : W → ℕ → Type 0) (shape : ShapeView) (ran : Option Scheduled) (plant next : Plant P W G) (old new : BookView) (session : ℕ) (c : Call) (r : Result Reply Unrecorded)
-    → LeavesPlant seen sure shape ran (outcome_in r) plant next → Applies old session c r new → (NeverFail seen sure → AreUnstopped old.history) → NeverFail seen sure → AreUnstopped new.history
+pub unstopped_made : {P W G : Type 0} (seen : Ghosts P) (sure : W → ℕ → Type 0) (shape : ShapeView) (ran : Option RunSchedule) (plant next : Plant P W G)
+    (old new : BookView) (session : ℕ) (c : Call) (r : Result Reply Unrecorded)
+    → LeavesPlant seen sure shape ran (outcome_in r) plant next → Applies old session c r new → (NeverFail seen sure → AreUnstopped old.history)
+    → NeverFail seen sure → AreUnstopped new.history
 unstopped_made seen sure shape ran plant next old new session c (Ok reply) left is before never = by (is_logged reply) refl
   where
     by : (b : Bool) → is_logged reply ≡ b → AreUnstopped new.history
     by true logged = stay_unstopped seen sure shape ran plant next old session c reply new left (is.grown logged) before never
     by false logged = subst (λ (a : BookView). AreUnstopped a.history) (sym (is.unlogged logged)) (before never)
-unstopped_made seen sure shape ran plant next old new session c (Err lost) left is before never = subst (λ (a : BookView). AreUnstopped a.history) (sym is.1) (before never)
+unstopped_made seen sure shape ran plant next old new session c (Err lost) left is before never = subst (λ (a : BookView). AreUnstopped a.history) (sym is.1)
+    (before never)

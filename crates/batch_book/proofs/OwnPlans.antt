@@ -19,7 +19,8 @@ use Rattle.batch_book.specs.declared.reply.Reply.{Reply}
 use Rattle.batch_book.specs.declared.reply.Reply.TheVariants as reply
 use Rattle.batch_book.specs.declared.call.Call.{Call}
 use Rattle.batch_book.specs.declared.call.Call.TheVariants.{Submit, Fetch, Settle, Run, Show, Discard, Peek, Poke}
-use Rattle.batch_book.specs.Machine.{Machine, stored_batch, owned, batch_of, staged, accept, refuse, fetch, settle_at, settle, show, discard, peek_unless, poke_unless, IsRunOf, IsRunAt, IsRunStep, IsMachineStep}
+use Rattle.batch_book.specs.Machine.{Machine, stored_batch, owned, batch_of, staged, accept, refuse, fetch, settle_at, settle, show, discard, peek_unless, poke_unless, IsRunOf, IsRunAt, IsRunStep}
+use Rattle.batch_book.specs.Machine.{IsMachineStep}
 use Rattle.batch_book.specs.History.{HasOwnPlan, HaveOwnPlans}
 use Rattle.batch_book.specs.Laws.{PlansStay}
 
@@ -44,7 +45,8 @@ planned plan owner batch good same = λ other is. subst (λ (p : Plan). IsPlan p
 abbrev Own : ℕ × StoredBatch → Type 0
 Own e = HasOwnPlan e.1
 
-set_step : (x : ℕ × StoredBatch) (xs ys : List (ℕ × StoredBatch)) (w : StoredBatch) → HasOwnPlan w → All Own (x ∷ xs) → All Own ys → (b : Bool) → All Own (cond b ((x.0, w) ∷ xs) (x ∷ ys))
+set_step : (x : ℕ × StoredBatch) (xs ys : List (ℕ × StoredBatch)) (w : StoredBatch) → HasOwnPlan w → All Own (x ∷ xs) → All Own ys → (b : Bool)
+    → All Own (cond b ((x.0, w) ∷ xs) (x ∷ ys))
 set_step x xs ys w good all rest true = All-cons Own (x.0, w) xs good (All-tail Own x xs all)
 set_step x xs ys w good all rest false = All-cons Own x ys (All-head Own x xs all) rest
 
@@ -66,7 +68,8 @@ own_staged id s es (Some h) none all = own_set (nat_eq id) es (stored_batch h.ow
 
 -- ---- steps
 
-settled_at : (m : Machine) (id : ℕ) (plan : Plan) (h : StoredBatch) (s : BatchStage) → lookup (nat_eq id) m.batches ≡ Some h → IsPlan plan → h.batch ≡ plan.batch → HaveOwnPlans m → HaveOwnPlans (settle_at m id plan s).1
+settled_at : (m : Machine) (id : ℕ) (plan : Plan) (h : StoredBatch) (s : BatchStage) → lookup (nat_eq id) m.batches ≡ Some h → IsPlan plan → h.batch
+    ≡ plan.batch → HaveOwnPlans m → HaveOwnPlans (settle_at m id plan s).1
 settled_at m id plan h stage.Waiting found good same all =
     subst (λ (o : Option StoredBatch). All Own (staged id (stage.Planned plan) m.batches o)) (sym found)
     (own_set (nat_eq id) m.batches (stored_batch h.owner h.batch (stage.Planned plan)) (planned plan h.owner h.batch good (sym same)) all)
@@ -74,7 +77,8 @@ settled_at m id plan h (stage.Planned other) found good same all = all
 settled_at m id plan h stage.Ran found good same all = all
 settled_at m id plan h stage.Stopped found good same all = all
 
-settled_if : (m : Machine) (id : ℕ) (plan : Plan) (h : StoredBatch) (b : Bool) → same_transfers h.batch plan.batch ≡ b → lookup (nat_eq id) m.batches ≡ Some h → IsPlan plan → HaveOwnPlans m
+settled_if : (m : Machine) (id : ℕ) (plan : Plan) (h : StoredBatch) (b : Bool) → same_transfers h.batch plan.batch ≡ b → lookup (nat_eq id) m.batches ≡ Some h
+    → IsPlan plan → HaveOwnPlans m
     → HaveOwnPlans (if b then settle_at m id plan h.stage else refuse m Stranger).1
 settled_if m id plan h true same found good all = settled_at m id plan h h.stage found good ((same_transfers-Decides h.batch plan.batch).0 same) all
 settled_if m id plan h false same found good all = all
@@ -84,12 +88,15 @@ settled_by : (m : Machine) (id : ℕ) (plan : Plan) (h : StoredBatch) (b : Bool)
 settled_by m id plan h true found good all = settled_if m id plan h (same_transfers h.batch plan.batch) refl found good all
 settled_by m id plan h false found good all = all
 
-settled : (m : Machine) (session id : ℕ) (plan : Plan) (o : Option StoredBatch) → lookup (nat_eq id) m.batches ≡ o → IsPlan plan → HaveOwnPlans m → HaveOwnPlans (settle m id plan (owned session o)).1
+settled : (m : Machine) (session id : ℕ) (plan : Plan) (o : Option StoredBatch) → lookup (nat_eq id) m.batches ≡ o → IsPlan plan → HaveOwnPlans m
+    → HaveOwnPlans (settle m id plan (owned session o)).1
 settled m session id plan None found good all = all
 settled m session id plan (Some h) found good all = settled_by m id plan h (h.owner == session) found good all
 
-submitted : (m : Machine) (session : ℕ) (batch : List Transfer) (b : Bool) → HaveOwnPlans m → HaveOwnPlans (if b then accept m session batch else refuse m BookFull).1
-submitted m session batch true all = All-push Own m.batches (m.given + 1, stored_batch session batch stage.Waiting) all (unplanned stage.Waiting session batch refl)
+submitted : (m : Machine) (session : ℕ) (batch : List Transfer) (b : Bool) → HaveOwnPlans m
+    → HaveOwnPlans (if b then accept m session batch else refuse m BookFull).1
+submitted m session batch true all = All-push Own m.batches (m.given + 1, stored_batch session batch stage.Waiting) all
+    (unplanned stage.Waiting session batch refl)
 submitted m session batch false all = all
 
 fetched : (m : Machine) (h : Option StoredBatch) → HaveOwnPlans m → HaveOwnPlans (fetch m h).1
@@ -119,7 +126,8 @@ run_of : (m : Machine) (id : ℕ) (plan : Plan) (r : Reply) (n : Machine) → Ha
 run_of m id plan (reply.RunRefused (run_refusal.Overlap i j)) n all is = behind n _ is.1 all
 run_of m id plan (reply.RunRefused run_refusal.Shape) n all is = behind n _ is.2 all
 run_of m id plan (reply.Ran run settings words) n all is = behind n _ is.2 (own_staged id stage.Ran m.batches (lookup (nat_eq id) m.batches) refl all)
-run_of m id plan (reply.Stopped run setting cause moved) n all is = behind n _ is.2 (own_staged id stage.Stopped m.batches (lookup (nat_eq id) m.batches) refl all)
+run_of m id plan (reply.Stopped run setting cause moved) n all is =
+    behind n _ is.2 (own_staged id stage.Stopped m.batches (lookup (nat_eq id) m.batches) refl all)
 run_of m id plan r n all is = absurd is
 
 run_at : (m : Machine) (id : ℕ) (s : BatchStage) (r : Reply) (n : Machine) → HaveOwnPlans m → IsRunAt m id s r n → HaveOwnPlans n

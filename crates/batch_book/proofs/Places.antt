@@ -1,5 +1,6 @@
 -- Places of entries, notes up to a place, and what each side noted last.
-use Rattle.std.proofs.Common.{◌≡◌, ℕ, suc, ◌+◌, ◌-◌, ◌<◌, ◌≤◌, Bool, true, false, ◌&&◌, List, [], ◌∷◌, ◌++◌, length, take, nat_eq, nat_le, cond, filter, if◌then◌else◌, Option, Some, None, Result, Ok, Err, refl, sym, ap, ◌∙◌, append-nil, true≢false, arith}
+use Rattle.std.proofs.Common.{◌≡◌, ℕ, suc, ◌+◌, ◌-◌, ◌<◌, ◌≤◌, Bool, true, false, ◌&&◌, List, [], ◌∷◌, ◌++◌, length, take, nat_eq, nat_le, cond, filter, if◌then◌else◌, Option, Some, None, Result, Ok}
+use Rattle.std.proofs.Common.{Err, refl, sym, ap, ◌∙◌, append-nil, true≢false, arith}
 use Rattle.std.proofs.Math.Seq.{take-nil}
 use Rattle.std.proofs.lemmas.Bool.{and_parts, and_from, leb-true, leb-false, le-leb, eqb-true, eq-eqb}
 use Rattle.std.proofs.lemmas.List.Elements.{filter-append}
@@ -22,12 +23,14 @@ up_to_more last more (n ∷ ns) m low le at =
     let parts = and_parts (nat_le n.place last) (are_up_to last ns) low in
     and_from _ _ (le-leb n.place more (omega (arith, leb-true n.place last parts.0, le))) (up_to_more last more ns m parts.1 le at)
 
-low_if : (last : ℕ) (ns : List Noted) (session : ℕ) (c : Call) (r : Reply) (b : Bool) → are_up_to last ns ≡ true → are_up_to last (ns ++ (if b then note session 0 c r ∷ [] else [])) ≡ true
+low_if : (last : ℕ) (ns : List Noted) (session : ℕ) (c : Call) (r : Reply) (b : Bool) → are_up_to last ns ≡ true
+    → are_up_to last (ns ++ (if b then note session 0 c r ∷ [] else [])) ≡ true
 low_if last ns session c r true low = up_to_more last last ns (note session 0 c r) low (omega arith) (omega arith)
 low_if last ns session c r false low = ap (are_up_to last) (append-nil ns) ∙ low
 
 -- where calls are noted without places
-pub low_noted : (last : ℕ) (ns : List Noted) (session : ℕ) (c : Call) (r : Result Reply Unrecorded) → are_up_to last ns ≡ true → are_up_to last (ns ++ noted session 0 c r) ≡ true
+pub low_noted : (last : ℕ) (ns : List Noted) (session : ℕ) (c : Call) (r : Result Reply Unrecorded) → are_up_to last ns ≡ true
+    → are_up_to last (ns ++ noted session 0 c r) ≡ true
 low_noted last ns session c (Ok reply) low = low_if last ns session c reply (is_logged reply) low
 low_noted last ns session c (Err lost) low = ap (are_up_to last) (append-nil ns) ∙ low
 
@@ -67,14 +70,17 @@ own_up_to s front (n ∷ ns) = by (nat_eq n.session s) refl (own_up_to s front n
     all : own s (made_in (notes_to front (n ∷ ns))) ≡ own s first ++ rest
     all = ap (own s) (made_cons low n ns) ∙ own_append s first (made_in (notes_to front ns))
 
-    by : (b : Bool) → nat_eq n.session s ≡ b → made_in (notes_to front N) ≡ rest → made_in (notes_to front (notes_of s (n ∷ ns))) ≡ own s (made_in (notes_to front (n ∷ ns)))
+    by : (b : Bool) → nat_eq n.session s ≡ b → made_in (notes_to front N) ≡ rest → made_in (notes_to front (notes_of s (n ∷ ns)))
+        ≡ own s (made_in (notes_to front (n ∷ ns)))
     by true is further =
-        ap (λ (b : Bool). made_in (notes_to front (cond b (n ∷ N) N))) is ∙ made_cons low n N ∙ ap (λ (l : List Entry). first ++ l) further ∙ sym (ap (λ (l : List Entry). l ++ rest) (mine (low n))) ∙ sym all
+        ap (λ (b : Bool). made_in (notes_to front (cond b (n ∷ N) N))) is ∙ made_cons low n N ∙ ap (λ (l : List Entry). first ++ l) further
+        ∙ sym (ap (λ (l : List Entry). l ++ rest) (mine (low n))) ∙ sym all
       where
         mine : (c : Bool) → own s (cond c (made_by n) []) ≡ cond c (made_by n) []
         mine true = own_made s n.session n.made is
         mine false = refl
-    by false is further = ap (λ (b : Bool). made_in (notes_to front (cond b (n ∷ N) N))) is ∙ further ∙ sym (ap (λ (l : List Entry). l ++ rest) (others (low n))) ∙ sym all
+    by false is further = ap (λ (b : Bool). made_in (notes_to front (cond b (n ∷ N) N))) is ∙ further
+        ∙ sym (ap (λ (l : List Entry). l ++ rest) (others (low n))) ∙ sym all
       where
         others : (c : Bool) → own s (cond c (made_by n) []) ≡ []
         others true = others_made s n.session n.made is
@@ -136,8 +142,10 @@ placed_take k front (n ∷ ns) placed = by (is_none n.made) refl (placed_take k 
         two true below =
             let le : n.place ≤ front = leb-true n.place front below in
             let step : suc (front - (k + 1)) ≡ front - k = omega (arith, place, le) in
-            made_cons low n ns ∙ ap (λ (b : Bool). cond b (made_by n) [] ++ made_in (notes_to front ns)) below ∙ ap (λ (l : List Entry). l ++ made_in (notes_to front ns)) one
-            ∙ ap (λ (l : List Entry). e ∷ l) further ∙ ap (λ (m : ℕ). take m (e ∷ made_in ns)) step ∙ ap (λ (l : List Entry). take (front - k) (l ++ made_in ns)) (sym one)
+            made_cons low n ns ∙ ap (λ (b : Bool). cond b (made_by n) [] ++ made_in (notes_to front ns)) below
+            ∙ ap (λ (l : List Entry). l ++ made_in (notes_to front ns)) one
+            ∙ ap (λ (l : List Entry). e ∷ l) further ∙ ap (λ (m : ℕ). take m (e ∷ made_in ns)) step
+            ∙ ap (λ (l : List Entry). take (front - k) (l ++ made_in ns)) (sym one)
         two false above =
             let lt : front < n.place = leb-false n.place front above in
             let zero_less : front - (k + 1) ≡ 0 = omega (arith, place, lt) in
@@ -146,7 +154,8 @@ placed_take k front (n ∷ ns) placed = by (is_none n.made) refl (placed_take k 
             ∙ ap (λ (m : ℕ). take m (made_in ns)) zero_less ∙ ap (λ (m : ℕ). take m (made_by n ++ made_in ns)) zero_more
 
 -- a call more with the next place
-pub placed_more : (k : ℕ) (ns : List Noted) (session place : ℕ) (c : Call) (r : Reply) → are_placed k ns ≡ true → place ≡ k + length (made_in ns) + 1 → are_placed k (ns ++ note session place c r ∷ []) ≡ true
+pub placed_more : (k : ℕ) (ns : List Noted) (session place : ℕ) (c : Call) (r : Reply) → are_placed k ns ≡ true → place ≡ k + length (made_in ns) + 1
+    → are_placed k (ns ++ note session place c r ∷ []) ≡ true
 placed_more k [] session place c r placed at = and_from _ true (eq-eqb place (k + 1) (omega (arith, at))) refl
 placed_more k (n ∷ ns) session place c r placed at = by (is_none n.made) refl (placed_more k ns session place c r) (placed_more (k + 1) ns session place c r)
   where
@@ -154,9 +163,11 @@ placed_more k (n ∷ ns) session place c r placed at = by (is_none n.made) refl 
     more = ns ++ note session place c r ∷ []
 
     by : (b : Bool) → is_none n.made ≡ b → (are_placed k ns ≡ true → place ≡ k + length (made_in ns) + 1 → are_placed k more ≡ true)
-        → (are_placed (k + 1) ns ≡ true → place ≡ (k + 1) + length (made_in ns) + 1 → are_placed (k + 1) more ≡ true) → placed_by k n more (is_none n.made) ≡ true
+        → (are_placed (k + 1) ns ≡ true → place ≡ (k + 1) + length (made_in ns) + 1 → are_placed (k + 1) more ≡ true) → placed_by k n more (is_none n.made)
+        ≡ true
     by true none same next =
-        ap (placed_by k n more) none ∙ same (sym (ap (placed_by k n ns) none) ∙ placed) (at ∙ ap (λ (l : List Entry). k + length (l ++ made_in ns) + 1) (none_by n.session n.made none))
+        ap (placed_by k n more) none ∙ same (sym (ap (placed_by k n ns) none) ∙ placed)
+        (at ∙ ap (λ (l : List Entry). k + length (l ++ made_in ns) + 1) (none_by n.session n.made none))
     by false some same next =
         let parts = and_parts _ _ (sym (ap (placed_by k n ns) some) ∙ placed) in
         let one = one_by n.session n.made some in

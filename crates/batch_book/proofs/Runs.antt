@@ -8,7 +8,7 @@ use Rattle.batch.specs.Overlap.{IsApart, IsFirstOverlap}
 use Rattle.module_memory.specs.Store.{Store}
 use Rattle.crossbar.specs.declared.port.ConfigPort.{Ghosts}
 use Rattle.schedule_certificate.specs.Plans.{Plan}
-use Rattle.setting_runner.specs.Plants.{LeavesPlant, Scheduled}
+use Rattle.setting_runner.specs.Plants.{LeavesPlant, RunSchedule}
 use Rattle.setting_runner.specs.Runs.{LeavesMemories, IsMisfit, IsRefusedRun, CanMove}
 use Rattle.setting_runner.specs.declared.outcome.Outcome.{Outcome}
 use Rattle.setting_runner.specs.declared.outcome.Outcome.TheVariants as outcome
@@ -43,13 +43,19 @@ begun : (m : Machine) (plan : Plan) → CanMove m.store.shape plan.batch → Has
 begun m plan can_move = record { can_move = can_move; number = refl }
 
 pub ended : {E : Type 0} (m : Machine) (s : Store) (id : ℕ) (plan : Plan) (o : Outcome) (r : Result Reply E) (next : Machine)
-    → AreRefusals m.store.shape plan.batch o → LeavesMemories m.store plan.batch plan.settings o s → EndsRun (worded m s) id o r next → IfOk r (λ reply. IsRunOf m id plan reply next)
+    → AreRefusals m.store.shape plan.batch o → LeavesMemories m.store plan.batch plan.settings o s → EndsRun (worded m s) id o r next
+    → IfOk r (λ reply. IsRunOf m id plan reply next)
 ended m s id plan (outcome.Completed settings words) r next are left is =
     subst (λ (x : Result Reply _). IfOk x (λ reply. IsRunOf m id plan reply next)) (sym is.0)
-    (subst (λ (n : Machine). IsRunOf m id plan (reply.Ran (m.runs + 1) settings words) n) (sym is.1) (begun m plan (are.free (λ no_refusal. no_refusal)), left, refl))
+    (subst (λ (n : Machine). IsRunOf m id plan (reply.Ran (m.runs + 1) settings words) n) (sym is.1) (
+      begun m plan (are.free (λ no_refusal. no_refusal)),
+      left,
+      refl,
+    ))
 ended m s id plan (outcome.Stopped setting cause moved) r next are left is =
     subst (λ (x : Result Reply _). IfOk x (λ reply. IsRunOf m id plan reply next)) (sym is.0)
-    (subst (λ (n : Machine). IsRunOf m id plan (reply.Stopped (m.runs + 1) setting cause moved) n) (sym is.1) (begun m plan (are.free (λ no_refusal. no_refusal)), left, refl))
+    (subst (λ (n : Machine). IsRunOf m id plan (reply.Stopped (m.runs + 1) setting cause moved) n) (sym is.1)
+    (begun m plan (are.free (λ no_refusal. no_refusal)), left, refl))
 ended m s id plan (outcome.Refused (run_refusal.Overlap i j)) r next are left is =
     subst (λ (x : Result Reply _). IfOk x (λ reply. IsRunOf m id plan reply next)) (sym is.0) ((are.overlap i j).0 refl, same_words m s next left is.1)
 ended m s id plan (outcome.Refused run_refusal.Shape) r next are left is =
@@ -74,10 +80,21 @@ as_told P m id (outcome.Refused run_refusal.NoMemory) (Err e) next any is holds 
 -- ---- the plant
 
 -- it makes no difference to the plant why a run was refused
-pub refused_so : {P W G : Type 0} (seen : Ghosts P) (sure : W → ℕ → Type 0) (shape : ShapeView) (ran : Option Scheduled) (old new : Plant P W G) (why other : RunRefusal)
+pub refused_so : {P W G : Type 0} (seen : Ghosts P) (sure : W → ℕ → Type 0) (shape : ShapeView) (ran : Option RunSchedule) (old new : Plant P W G)
+    (why other : RunRefusal)
     → LeavesPlant seen sure shape ran (outcome.Refused why) old new → LeavesPlant seen sure shape ran (outcome.Refused other) old new
 refused_so seen sure shape ran old new why other is =
-    record { cause = is.cause; switches = is.switches; traffic = is.traffic; refused = is.refused; uncalled = is.uncalled; others = is.others; counted = is.counted; honesty = is.honesty }
+    record {
+      cause = is.cause;
+      switches = is.switches;
+      traffic = is.traffic;
+      refused = is.refused;
+      uncalled = is.uncalled;
+      others = is.others;
+      counted =
+          is.counted;
+      honesty = is.honesty;
+    }
 
 -- ---- the step of a run
 

@@ -19,7 +19,8 @@ greatest_push [] e = omega arith
 greatest_push (x ∷ xs) e = omega (arith, greatest_push xs e)
 
 -- how far runs have come, with an entry more
-pub further : (es new : List Entry) (e : Entry) (far value now : ℕ) → far ≡ greatest es → value ≡ value_of e.reply → now ≡ max far value → new ≡ es ++ e ∷ [] → now ≡ greatest new
+pub further : (es new : List Entry) (e : Entry) (far value now : ℕ) → far ≡ greatest es → value ≡ value_of e.reply → now ≡ max far value → new ≡ es ++ e ∷ []
+    → now ≡ greatest new
 further es new e far value now was its is grown =
     is ∙ (ap (λ (n : ℕ). max n value) was ∙ (ap (λ (n : ℕ). max (greatest es) n) its ∙ (sym (greatest_push es e) ∙ ap greatest (sym grown))))
 
@@ -54,12 +55,16 @@ numbered a b run number k is h = subst (λ n. Reaches a (value_at n k) b) (sym i
 
 -- after a call the word was raised from the watcher to the reply's value
 pub heard : {N : Type 0} (watcher : N → WatcherView) (run : N → ℕ) (a b : N) (old : BookView) (session : ℕ) (c : Call) (r : Reply) (new : BookView)
-    → IsSound old.machine → run a ≡ old.machine.runs + 1 → (is_logged r ≡ true → IsGrown old session c r new) → TellsOutcome (Hears watcher run) a (outcome_of r) b
+    → IsSound old.machine → run a ≡ old.machine.runs + 1 → (is_logged r ≡ true → IsGrown old session c r new) → TellsOutcome (Hears watcher run) a
+    (outcome_of r) b
     → Reaches (watcher a) (value_of r) (watcher b)
 heard watcher run a b old session c (Ran number settings words) new sound next grown h =
-    numbered (watcher a) (watcher b) (run a) number settings ((answered old.machine session c (Ran number settings words) new.machine sound (grown refl).step).number ∙ sym next) (told watcher run a settings b h).0
+    numbered (watcher a) (watcher b) (run a) number settings
+    ((answered old.machine session c (Ran number settings words) new.machine sound (grown refl).step).number ∙ sym next) (told watcher run a settings b h).0
 heard watcher run a b old session c (Stopped number setting cause moved) new sound next grown h =
-    numbered (watcher a) (watcher b) (run a) number setting ((answered old.machine session c (Stopped number setting cause moved) new.machine sound (grown refl).step).number ∙ sym next) (told watcher run a setting b h).0
+    numbered (watcher a) (watcher b) (run a) number setting
+    ((answered old.machine session c (Stopped number setting cause moved) new.machine sound (grown refl).step).number ∙ sym next)
+    (told watcher run a setting b h).0
 heard watcher run a b old session c r new sound next grown h = stays (watcher a) (watcher b) (ap watcher h)
 
 -- where the reply tells of no run, the watcher is as it was: a run's number isn't 0, nor is its
@@ -82,7 +87,8 @@ unlogged_value (Stopped run setting cause moved) h = absurd (cc)
 unlogged_value r h = refl
 
 -- a seat before the last one, of seats that are all of one word
-pub its_word : (seats rest : List SeatState) (last s : SeatState) (word : TableId) (k : ℕ) → All (λ (t : SeatState). t.exchange ≡ Some word) seats → seats ≡ rest ++ last ∷ [] → k < length rest → s ≡ get_or rest k s → s.exchange ≡ Some word
+pub its_word : (seats rest : List SeatState) (last s : SeatState) (word : TableId) (k : ℕ) → All (λ (t : SeatState). t.exchange ≡ Some word) seats → seats
+    ≡ rest ++ last ∷ [] → k < length rest → s ≡ get_or rest k s → s.exchange ≡ Some word
 its_word seats rest last s word k all grown below is =
     let whole : s ≡ get_or seats k s = is ∙ (sym (get_or_append_left rest (last ∷ []) s k below) ∙ ap (λ (l : List SeatState). get_or l k s) (sym grown)) in
     ap (λ (t : SeatState). t.exchange) whole ∙ all k s (omega (arith, ap length grown, length-append rest (last ∷ [])))

@@ -39,7 +39,8 @@ gives m a r n small is = record {
   blocks = ap (λ (x : Machine). length x.store.blocks) is.1 ∙ small.blocks;
 }
 
-moves : (m : Machine) (r : Reply) (n : Machine) → is_logged r ≡ true → n.given ≤ m.given + 1 → n.runs ≤ m.runs + 1 → n.store.shape ≡ m.store.shape → length n.store.blocks ≡ length m.store.blocks → IsSmall m r n
+moves : (m : Machine) (r : Reply) (n : Machine) → is_logged r ≡ true → n.given ≤ m.given + 1 → n.runs ≤ m.runs + 1 → n.store.shape ≡ m.store.shape
+    → length n.store.blocks ≡ length m.store.blocks → IsSmall m r n
 moves m r n logged given runs shape blocks = record { logged = logged; given = given; runs = runs; shape = shape; blocks = blocks }
 
 stays : (m : Machine) (r : Reply) (n : Machine) → is_logged r ≡ true → n ≡ m → IsSmall m r n

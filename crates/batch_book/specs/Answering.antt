@@ -12,11 +12,16 @@ use Rattle.std.specs.Prelude.{◌≡◌, ◌≢◌, ℕ, ◌*◌, ◌<◌, ◌�
 use Rattle.batch.specs.declared.limits.TheConstants.{MAX_TRANSFERS, MAX_WORDS}
 use Rattle.setting_runner.specs.declared.outcome.RunRefusal.TheVariants as run_refusal
 use Rattle.batch_book.specs.declared.call.Call.{Call}
-use Rattle.batch_book.specs.declared.call.Call.TheVariants.{Submit, Fetch, Settle, Run, Show, Discard, Peek, Poke}
+use Rattle.batch_book.specs.declared.call.Call.TheVariants.{Submit, Fetch, Settle, Run, Show}
+use Rattle.batch_book.specs.declared.call.Call.TheVariants.{Discard, Peek, Poke}
 use Rattle.batch_book.specs.declared.reply.Reply.{Reply}
-use Rattle.batch_book.specs.declared.reply.Reply.TheVariants.{Accepted, Fetched, Settled, Ran, Stopped, RunRefused, Shown, Discarded, Word, Poked, Refused}
+use Rattle.batch_book.specs.declared.reply.Reply.TheVariants.{Accepted, Fetched, Settled, Ran}
+use Rattle.batch_book.specs.declared.reply.Reply.TheVariants.{Stopped, RunRefused, Shown, Discarded}
+use Rattle.batch_book.specs.declared.reply.Reply.TheVariants.{Word, Poked, Refused}
 use Rattle.batch_book.specs.declared.refusal.BookRefusal.{BookRefusal}
-use Rattle.batch_book.specs.declared.refusal.BookRefusal.TheVariants.{HistoryFull, BookFull, Unknown, Unplanned, Stranger, Already, Memory, NoMemory}
+use Rattle.batch_book.specs.declared.refusal.BookRefusal.TheVariants.{HistoryFull, BookFull}
+use Rattle.batch_book.specs.declared.refusal.BookRefusal.TheVariants.{Unknown, Unplanned, Stranger}
+use Rattle.batch_book.specs.declared.refusal.BookRefusal.TheVariants.{Already, Memory, NoMemory}
 
 -- why a call may be refused; each for a full history and for want of memory
 abbrev pub IsRefusalOf : Call → BookRefusal → Type 0

@@ -1,5 +1,6 @@
 -- What a book's holdings keep, and what is done with them for a call beside the machine's step.
-use Rattle.std.specs.Prelude.{◌≡◌, ℕ, ◌+◌, ◌<◌, ◌≤◌, nat_eq, List, [], length, Option, Some, None, IsSome, Result, Ok, IsErr}
+use Rattle.std.specs.Prelude.{◌≡◌, ℕ, ◌+◌, ◌<◌, ◌≤◌, nat_eq, List, [], length, Option, Some, None}
+use Rattle.std.specs.Prelude.{IsSome, Result, Ok, IsErr}
 use Rattle.std.specs.Map.{lookup}
 use Rattle.batch.specs.ShapeView.{extent}
 use Rattle.batch.specs.declared.transfer.Transfer.{Transfer}
@@ -23,10 +24,11 @@ abbrev pub IsFreeAbove : List (ℕ × StoredBatch) → ℕ → Type 0
 IsFreeAbove batches given = (id : ℕ) → given < id → lookup (nat_eq id) batches ≡ None
 
 -- the rack is there, no number is kept that wasn't given, and there are no more batches than may be
-pub record AreStored (rack : Option Store) (batches : List (ℕ × StoredBatch)) (given : ℕ) : Type 0 where
-  pub there : IsSome rack
-  pub free : IsFreeAbove batches given
-  pub few : length batches ≤ MAX_BATCHES
+pub record AreStored (rack : Option Store) (batches : List (ℕ × StoredBatch)) (given : ℕ) : Type 0
+  where
+    pub there : IsSome rack
+    pub free : IsFreeAbove batches given
+    pub few : length batches ≤ MAX_BATCHES
 
 -- the batch of a reply to this call
 abbrev pub batch_in : Option StoredBatch → Option (List Transfer)

@@ -15,9 +15,9 @@ use Rattle.batch_book.specs.Values.{greatest}
 -- No seat is missing: the book was opened with these words, and had these entries before. After
 -- them its history has those that were made. What each seat asked is that, filtered to the seat's
 -- session, and nothing else was made. What could be told to it are the first of its session's
--- entries that stand where they belong. No seat has seen more of the word than the greatest value of
--- the history. Where port and wires never fail, no run of it stopped. Unless an entry was lost all
--- stand where they belong.
+-- entries that stand where they belong. No seat has seen more of the word than the greatest value
+-- of the history. Where port and wires never fail, no run of it stopped. Unless an entry was lost
+-- all stand where they belong.
 pub record AreClosed {P W : Type 0} (seen : Ghosts P) (sure : W → ℕ → Type 0) (opening : Store)
     (earlier : List Entry) (seats : List SeatState) (book : BookView) : Type 0 where
   pub made : List Entry
@@ -34,7 +34,8 @@ pub record AreClosed {P W : Type 0} (seen : Ghosts P) (sure : W → ℕ → Type
   pub all : book.whole ≡ true → book.durable ≡ book.history
 
 -- A seat is missing just where the seats hold fewer than all parts; then nothing has changed. Else
--- the exchange is closed. `Line` are the wires that a `W` makes, `E` and `Q` what an `H` parts into.
+-- the exchange is closed. `Line` are the wires that a `W` makes, `E` and `Q` what an `H` parts
+-- into.
 abbrev pub Closes : {L P W G H Line E Q : Type 0} → Ghosts P → (W → ℕ → Type 0) → Store → List Entry
     → Exchange → List SeatState → Result (Closed P W G H) (SeatMissing L P W G H Line E Q)
     → Type 0

@@ -1,5 +1,6 @@
 -- What contracts see of an exchange, and of its seats as it is made.
-use Rattle.std.specs.Prelude.{◌≡◌, ℕ, ◌+◌, ◌-◌, ◌<◌, ◌==◌, if◌then◌else◌, false, List, [], length, slice_index_or, Some, refl}
+use Rattle.std.specs.Prelude.{◌≡◌, ℕ, ◌+◌, ◌-◌, ◌<◌, ◌==◌, if◌then◌else◌, false, List, [], length}
+use Rattle.std.specs.Prelude.{slice_index_or, Some, refl}
 use Rattle.std.specs.Coded.{Coded, code_by, coded×, coded_ℕ}
 use Rattle.atomic_table.specs.Seated.{TableId, table_id_coded}
 use Rattle.progress_word.specs.declared.limits.TheConstants.{ALL_PARTS}

@@ -1,7 +1,8 @@
 -- The book as a machine: what it holds, and the steps that it makes. A step is the call of a
 -- session, the reply, and the machine after them. The calls, their refusals and the order in which
 -- these are tested are this project's choice.
-use Rattle.std.specs.Prelude.{◌≡◌, ℕ, ◌+◌, ◌==◌, nat_eq, nat_lt, if◌then◌else◌, List, [], ◌∷◌, ◌++◌, length, Option, Some, None}
+use Rattle.std.specs.Prelude.{◌≡◌, ℕ, ◌+◌, ◌==◌, nat_eq, nat_lt, if◌then◌else◌, List, [], ◌∷◌, ◌++◌}
+use Rattle.std.specs.Prelude.{length, Option, Some, None}
 use Rattle.std.specs.Map.{lookup, set_value, remove_entry}
 use Rattle.batch.specs.Equal.{same_transfers}
 use Rattle.batch.specs.Overlap.{IsApart, IsFirstOverlap}
@@ -14,11 +15,15 @@ use Rattle.setting_runner.specs.Runs.{CanMove, IsCompleted, HasStoppedIn, IsMisf
 use Rattle.setting_runner.specs.declared.outcome.RunRefusal.TheVariants as run_refusal
 use Rattle.batch_book.specs.declared.limits.TheConstants.{MAX_BATCHES}
 use Rattle.batch_book.specs.declared.call.Call.{Call}
-use Rattle.batch_book.specs.declared.call.Call.TheVariants.{Submit, Fetch, Settle, Run, Show, Discard, Peek, Poke}
+use Rattle.batch_book.specs.declared.call.Call.TheVariants.{Submit, Fetch, Settle, Run, Show}
+use Rattle.batch_book.specs.declared.call.Call.TheVariants.{Discard, Peek, Poke}
 use Rattle.batch_book.specs.declared.reply.Reply.{Reply}
-use Rattle.batch_book.specs.declared.reply.Reply.TheVariants.{Accepted, Fetched, Settled, Ran, Stopped, RunRefused, Shown, Discarded, Word, Poked, Refused}
+use Rattle.batch_book.specs.declared.reply.Reply.TheVariants.{Accepted, Fetched, Settled, Ran}
+use Rattle.batch_book.specs.declared.reply.Reply.TheVariants.{Stopped, RunRefused, Shown, Discarded}
+use Rattle.batch_book.specs.declared.reply.Reply.TheVariants.{Word, Poked, Refused}
 use Rattle.batch_book.specs.declared.refusal.BookRefusal.{BookRefusal}
-use Rattle.batch_book.specs.declared.refusal.BookRefusal.TheVariants.{BookFull, Unknown, Unplanned, Stranger, Already, Memory}
+use Rattle.batch_book.specs.declared.refusal.BookRefusal.TheVariants.{BookFull, Unknown, Unplanned}
+use Rattle.batch_book.specs.declared.refusal.BookRefusal.TheVariants.{Stranger, Already, Memory}
 use Rattle.batch_book.specs.declared.stored_batch.BatchState.{BatchState}
 use Rattle.batch_book.specs.declared.stored_batch.BatchState.TheVariants as state
 use Rattle.batch_book.specs.declared.stored_batch.BatchStage.{BatchStage}
@@ -59,7 +64,8 @@ state_of stage.Ran = state.Ran
 state_of stage.Stopped = state.Stopped
 
 -- the batches, of which the one that was found under a number is at another stage
-abbrev pub staged : ℕ → BatchStage → List (ℕ × StoredBatch) → Option StoredBatch → List (ℕ × StoredBatch)
+abbrev pub staged : ℕ → BatchStage → List (ℕ × StoredBatch) → Option StoredBatch
+    → List (ℕ × StoredBatch)
 staged id s batches None = batches
 staged id s batches (Some h) = set_value (nat_eq id) batches (stored_batch h.owner h.batch s)
 

@@ -1,5 +1,6 @@
 -- The places of entries, where what waits and the record have locks of their own.
-use Rattle.std.specs.Prelude.{◌≡◌, ℕ, ◌+◌, Bool, true, ◌&&◌, if◌then◌else◌, nat_eq, nat_le, List, [], ◌∷◌, filter, take, Option, Some, None, is_none}
+use Rattle.std.specs.Prelude.{◌≡◌, ℕ, ◌+◌, Bool, true, ◌&&◌, if◌then◌else◌, nat_eq, nat_le, List}
+use Rattle.std.specs.Prelude.{[], ◌∷◌, filter, take, Option, Some, None, is_none}
 use Rattle.session_lists.specs.Lists.{own_of}
 use Rattle.batch_book.specs.declared.entry.Entry.{Entry}
 use Rattle.batch_book.specs.History.{IsPrefix}

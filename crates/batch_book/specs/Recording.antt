@@ -1,6 +1,7 @@
--- What becomes of a call: its entry is made, and where that stands where it belongs the reply can be
--- told.
-use Rattle.std.specs.Prelude.{◌≡◌, ℕ, ◌||◌, ◌&&◌, if◌then◌else◌, Bool, true, false, List, [], ◌∷◌, ◌++◌, Option, Some, None, is_none, Result, Ok, Err}
+-- What becomes of a call: its entry is made, and where that stands where it belongs the reply can
+-- be told.
+use Rattle.std.specs.Prelude.{◌≡◌, ℕ, ◌||◌, ◌&&◌, if◌then◌else◌, Bool, true, false, List, [], ◌∷◌}
+use Rattle.std.specs.Prelude.{◌++◌, Option, Some, None, is_none, Result, Ok, Err}
 use Rattle.std.specs.List.{flat_map}
 use Rattle.batch_book.specs.declared.call.Call.{Call}
 use Rattle.batch_book.specs.declared.entry.Entry.{Entry}

@@ -1,5 +1,6 @@
 -- The seats of an exchange, and their lists.
-use Rattle.std.specs.Prelude.{◌≡◌, ℕ, ◌≤◌, ◌==◌, if◌then◌else◌, max, ◌||◌, Bool, true, List, [], ◌++◌, length, sum_by, Option, Some, Result, Ok, Err, is_err}
+use Rattle.std.specs.Prelude.{◌≡◌, ℕ, ◌≤◌, ◌==◌, if◌then◌else◌, max, ◌||◌, Bool, true, List, []}
+use Rattle.std.specs.Prelude.{◌++◌, length, sum_by, Option, Some, Result, Ok, Err, is_err}
 use Rattle.atomic_table.specs.Seated.{TableId}
 use Rattle.progress_word.specs.Watchers.{WatcherView}
 use Rattle.session_lists.specs.Lists.{own_of}
@@ -12,8 +13,9 @@ use Rattle.batch_book.specs.Recording.{asked_by, value_made}
 use Rattle.batch_book.specs.Values.{greatest}
 
 -- What contracts see of a seat: the word of its exchange, its session, the list of what it asked,
--- and of that what could be told to it, the greatest value that it saw of the word, that to which it
--- raised the word, its parts, and whether the record of its calls is broken, so that a reply was lost
+-- and of that what could be told to it, the greatest value that it saw of the word, that to which
+-- it raised the word, its parts, and whether the record of its calls is broken, so that a reply was
+-- lost
 pub record SeatState : Type 0 where
   pub exchange : Option TableId
   pub session : ℕ
@@ -45,8 +47,8 @@ pub record IsSameSeat (old new : SeatState) : Type 0 where
   pub parts : new.parts ≡ old.parts
 
 -- What a call leaves of a seat. It has asked this too, where it was made. No less could be told to
--- it than before. The seat has seen that the word is no less than the reply's value, and nothing new
--- where that is 0. Where the call wasn't made the record is broken, and it stays so.
+-- it than before. The seat has seen that the word is no less than the reply's value, and nothing
+-- new where that is 0. Where the call wasn't made the record is broken, and it stays so.
 pub record IsAsked (old : SeatState) (call : Call) (made : Result Reply Unrecorded)
     (new : SeatState) : Type 0 where
   pub seat : IsSameSeat old new
@@ -87,7 +89,8 @@ own session history = own_of (λ e. e.session) session history
 abbrev pub AskedAgrees : List Entry → SeatState → Type 0
 AskedAgrees made seat = seat.asked ≡ own seat.session made
 
--- what could be told to the seat are the first of its session's entries that stand where they belong
+-- what could be told to the seat are the first of its session's entries that stand where they
+-- belong
 abbrev pub IsRecorded : List Entry → SeatState → Type 0
 IsRecorded standing seat = IsPrefix seat.log (own seat.session standing)
 

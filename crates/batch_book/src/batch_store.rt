@@ -7,18 +7,20 @@ ghost use Rattle.setting_runner.specs.Plants.{LeavesPlant};
 ghost use Rattle.setting_runner.specs.Runs.{TellsOutcome};
 ghost use Rattle.batch_book.specs.History.{has_numbers};
 ghost use Rattle.batch_book.specs.BatchStore.{EndsRun, batch_in};
-ghost use Rattle.batch_book.specs.Machine.{Machine, opened, owned, batch_of, set_stage, Gives, submit, fetch, settle, show, discard, peek, poke, run_to, IsRunStep, IsMachineStep};
+ghost use Rattle.batch_book.specs.Machine.{Machine, opened, owned, batch_of, set_stage, Gives};
+ghost use Rattle.batch_book.specs.Machine.{submit, fetch, settle, show, discard, peek, poke};
+ghost use Rattle.batch_book.specs.Machine.{run_to, IsRunStep, IsMachineStep};
 ghost use Rattle.batch_book.specs.Running.{plan_in, plan_to_run};
 ghost use Rattle.batch_book.specs.Replies.{TellsNoRun, outcome_of, outcome_in, outcome_beside};
 ghost use Rattle.batch_book.specs.Told.{told};
 
 use crate::call::Call;
-use crate::stored_batch::{StoredBatch, BatchStage};
 use crate::limits::{MAX_BATCHES, MAX_NUMBER};
 use crate::recorded_call::RecordedCall;
 use crate::refusal::BookRefusal;
 use crate::reply::Reply;
 use crate::shared_batch::SharedBatch;
+use crate::stored_batch::{BatchStage, StoredBatch};
 use batch::Batch;
 use crossbar::ConfigPort;
 use indexmap::IndexMap;
@@ -270,7 +272,9 @@ impl BatchStore {
         let planned = match &found.stage {
             BatchStage::Waiting => return Ok(Reply::Refused(BookRefusal::Unplanned)),
             BatchStage::Planned(planned) => planned,
-            BatchStage::Ran | BatchStage::Stopped => return Ok(Reply::Refused(BookRefusal::Already)),
+            BatchStage::Ran | BatchStage::Stopped => return Ok(Reply::Refused(
+                BookRefusal::Already,
+            )),
         };
         let alloc = *self.batches.allocator();
         let Some(rack) = self.rack.take() else {

@@ -1,27 +1,30 @@
 //! The book.
 
 ghost use Rattle.std.specs.Option.{option_copied};
-ghost use Rattle.std.specs.Prelude.{◌+◌, ◌≡◌, ◌↔◌, ◌≤◌, [], true, false, List, IfOk, IfErr, OnOk, OnErr, length};
+ghost use Rattle.std.specs.Prelude.{◌+◌, ◌≡◌, ◌↔◌, ◌≤◌, [], true, false, List, IfOk, IfErr, OnOk};
+ghost use Rattle.std.specs.Prelude.{OnErr, length};
 ghost use Rattle.setting_runner.specs.Plants.{LeavesPlant};
 ghost use Rattle.setting_runner.specs.Runs.{TellsOutcome};
 ghost use Rattle.batch_book.specs.BatchStore.{batch_in};
 ghost use Rattle.batch_book.specs.Machine.{opened, batch_of};
 ghost use Rattle.batch_book.specs.Running.{plan_to_run};
 ghost use Rattle.batch_book.specs.Replies.{is_logged, outcome_of, outcome_in};
-ghost use Rattle.batch_book.specs.History.{new_book_view, IsReplay, IsLegal, IsFull, IsGrown, IsSound, IsSoundBook, IsPrefix, book_view, has_book_room};
+ghost use Rattle.batch_book.specs.History.{new_book_view, IsReplay, IsLegal, IsFull, IsGrown};
+ghost use Rattle.batch_book.specs.History.{IsSound, IsSoundBook, IsPrefix, book_view};
+ghost use Rattle.batch_book.specs.History.{has_book_room};
 ghost use Rattle.batch_book.specs.declared.entry.Entry.{Entry};
 ghost use Rattle.batch_book.specs.Recording.{Applies, IsAnswered};
 ghost use Rattle.batch_book.specs.Values.{greatest};
 
+use crate::batch_store::BatchStore;
 use crate::call::Call;
 use crate::entry::Entry;
 use crate::entry_log::EntryLog;
 use crate::ghost_history::GhostHistory;
 use crate::history::History;
-use crate::batch_store::BatchStore;
-use crate::memory_history::MemoryHistory;
 use crate::limits::{MAX_ENTRIES, MAX_NUMBER};
 use crate::logged::{LoggedCall, LoggedReply};
+use crate::memory_history::MemoryHistory;
 use crate::pending_entries::PendingEntries;
 use crate::recorder::Recorder;
 use crate::refusal::BookRefusal;
@@ -69,8 +72,8 @@ impl BareBook {
 
 /// The batches that sessions have submitted, the rack that these are run on, and the history of
 /// what was asked and answered. Contracts see the words that it was opened with, the history, its
-/// first entries, which stand where they belong, the machine that this has led to, step by step, and
-/// whether the others can still be put there.
+/// first entries, which are durable, the machine that this has led to, step by step, and whether
+/// the others can still become so.
 pub struct Book<H: EntryLog = MemoryHistory> {
     batch_store: BatchStore,
     opening: Rack,
@@ -266,8 +269,7 @@ impl<H: EntryLog> Book<H> {
     /// for them, and where there was no memory: then nothing has changed. A plan of a call that is
     /// refused is dropped.
     ///
-    /// The reply can be told once the entry stands where it belongs. Where one was lost before, no
-    /// call is made.
+    /// The reply can be told once the entry is durable. Where one was lost before, no call is made.
     ///
     /// Where there is no room no memory is asked for. Else all of it is taken before anything
     /// changes: for the entry, for the copy of a batch that is fetched, and for the run, if there
@@ -322,7 +324,13 @@ impl<H: EntryLog> Book<H> {
     /// One call of a session, where there is room for its entry. For want of memory nothing
     /// changes.
     #[inline(always)]
-    fn apply_in_room<R: Threads + Sync, P: ConfigPort, W: WireMaker + Sync, G: Gate + Sync, N: Notice>(
+    fn apply_in_room<
+        R: Threads + Sync,
+        P: ConfigPort,
+        W: WireMaker + Sync,
+        G: Gate + Sync,
+        N: Notice,
+    >(
         &mut self,
         rt: &R,
         session: usize,
@@ -358,8 +366,8 @@ impl<H: EntryLog> Book<H> {
         Ok(reply)
     }
 
-    /// The same as [`try_apply`](Book::try_apply) for a history that loses no entry, as [`MemoryHistory`]
-    /// and [`NullHistory`](crate::NullHistory).
+    /// The same as [`try_apply`](Book::try_apply) for a history that loses no entry, as
+    /// [`MemoryHistory`] and [`NullHistory`](crate::NullHistory).
     pub fn apply<R: Threads + Sync, P: ConfigPort, W: WireMaker + Sync, G: Gate + Sync, N: Notice>(
         &mut self,
         rt: &R,
@@ -396,8 +404,8 @@ impl<E: PendingEntries> Book<E> {
         self.history.past()
     }
 
-    /// Hands on what waits: puts its text after this one. Where there is no memory for it nothing
-    /// changes.
+    /// Queues what is pending: puts its text after this one. Where there is no memory for it
+    /// nothing changes.
     pub(crate) fn queue_text(&mut self, text: &mut Vec<u8>) -> Result<(), AllocError>
         ensures all { OnOk result (self.new ≡ record self.old { durable = self.old.history }) }
         ensures text { OnOk result ((taken : List Entry) → IsPrefix taken self.old.durable
@@ -410,7 +418,8 @@ impl<E: PendingEntries> Book<E> {
     }
 }
 
-/// A book whose recorder is lent, and that; or the book as it was, where its history loses no entry.
+/// A book whose recorder is lent, and that; or the book as it was, where its history loses no
+/// entry.
 pub(crate) fn lend<H: History>(book: Book<H>) -> Result<(Book<H::Pending>, H::Recorder), Book<H>>
     requires whole { book.whole ≡ true }
     requires all { book.durable ≡ book.history }
@@ -432,7 +441,7 @@ pub(crate) fn lend<H: History>(book: Book<H>) -> Result<(Book<H::Pending>, H::Re
 }
 
 /// The book whose recorder is back, which writes all that this hasn't got, unless a writing has
-/// failed: this text of the entries that were handed on, and that of the others.
+/// failed: this text of the entries that were queued, and that of the others.
 pub(crate) fn take_back<H: History>(
     book: Book<H::Pending>,
     recorder: H::Recorder,

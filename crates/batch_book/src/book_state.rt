@@ -1,4 +1,4 @@
-//! What lies under the lock of an exchange whose recorder is lent.
+//! What lies under the book's lock of an exchange with group commit.
 
 ghost use Rattle.std.specs.Prelude.{◌≡◌, ◌+◌, ◌++◌, ◌<◌, [], true, length, Some, IfOk};
 ghost use Rattle.std.specs.Option.{option_map_or};
@@ -20,13 +20,13 @@ use crate::naming::ExchangeName;
 use crate::noted::NotedEntry;
 use crate::pending_entries::PendingEntries;
 use crate::reply::Reply;
-use crate::seat::{SeatInner, Seat};
+use crate::seat::{Seat, SeatInner};
 use crate::unrecorded::Unrecorded;
 use crossbar::ConfigPort;
-use session_lists::OwnList;
 use peek_poke::WireMaker;
 use progress_word::ProgressWord;
 use schedule_certificate::Gate;
+use session_lists::OwnList;
 use setting_runner::Plant;
 use std::snapshot::Snapshot;
 use std::sync::ledger::Share;
@@ -34,8 +34,8 @@ use std::sync::{Mutex, Wait};
 use std::thread::Threads;
 
 /// The book, whose recorder is lent, and the plant; the book's own list, which has its history and
-/// those entries that were handed on; and how many entries the exchange has made. The rest is as
-/// with a history that writes all itself.
+/// those entries that were queued; and how many entries the exchange has made. The rest is as with
+/// a history that writes all itself.
 #[derive(Drop)]
 pub struct BookState<L: ExchangeName, P: ConfigPort, W: WireMaker, G, E: PendingEntries> {
     pub book: Book<E>,
@@ -58,8 +58,8 @@ impl<
     G: Gate + Sync,
     E: PendingEntries,
 > BookState<L, P, W, G, E> {
-    /// One call of a seat, whose entry waits until it is taken over to the record. No call is made
-    /// once a writing of the record has failed, nor where there is no place for an entry.
+    /// One call of a seat, whose entry is pending until the record has it. No call is made once a
+    /// writing of the record has failed, nor where there is no place for an entry.
     pub fn call<R: Threads + Wait + Sync>(
         &mut self,
         rt: &R,
@@ -184,7 +184,7 @@ struct Noting<L: ExchangeName> {
     last: u64,
 }
 
-// Notes a call where entries wait, and hands its entry on, if the history has such.
+// Notes a call in the queue, and queues its entry, if the history has pending ones.
 fn note_made<L: ExchangeName, E: PendingEntries, R: Wait>(
     rt: &R,
     waiting: &Mutex<CommitQueue<L, E>>,

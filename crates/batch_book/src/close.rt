@@ -13,18 +13,18 @@ use crate::book_state::BookState;
 use crate::commit_queue::CommitQueue;
 use crate::entry_log::EntryLog;
 use crate::history::History;
-use crate::memory_history::MemoryHistory;
 use crate::lists::have_all_parts;
 use crate::locked::LockedBook;
+use crate::memory_history::MemoryHistory;
 use crate::naming::ExchangeName;
 use crate::noted::NotedEntry;
-use crate::seat::{SeatInner, Seat};
-use crate::shared::{Shared, Locks};
+use crate::seat::{Seat, SeatInner};
+use crate::shared::{Locks, Shared};
 use crate::writer_state::{GroupCommit, WriterState};
 use crossbar::ConfigPort;
-use session_lists::Keeper;
 use peek_poke::WireMaker;
 use progress_word::{ALL_PARTS, ProgressWord};
+use session_lists::Keeper;
 use setting_runner::Plant;
 
 /// What an exchange leaves.
@@ -38,7 +38,13 @@ pub struct Closed<P, W, G, H: EntryLog = MemoryHistory> {
 
 /// The seats aren't all seats of the exchange. All is as it was.
 #[derive(Drop)]
-pub struct SeatMissing<L: ExchangeName, P: ConfigPort, W: WireMaker, G, H: History = MemoryHistory> {
+pub struct SeatMissing<
+    L: ExchangeName,
+    P: ConfigPort,
+    W: WireMaker,
+    G,
+    H: History = MemoryHistory,
+> {
     pub exchange: Shared<L, P, W, G, H>,
     pub seats: Vec<Seat<L>>,
 }
@@ -46,9 +52,9 @@ pub struct SeatMissing<L: ExchangeName, P: ConfigPort, W: WireMaker, G, H: Histo
 impl<L: ExchangeName, P: ConfigPort, W: WireMaker, G, H: History> Shared<L, P, W, G, H> {
     ghost use Rattle.batch_book.specs.Closing.{Closes};
 
-    /// Closes the exchange, once all of its seats are given back, in any order. What each seat asked
-    /// is then the history filtered to its session, without the entries that the book had before.
-    /// What could be told to it stands where it belongs. It takes time by the seats, and no memory.
+    /// Closes the exchange, once all of its seats are given back, in any order. What each seat
+    /// asked is then the history filtered to its session, without the entries that the book had
+    /// before. What could be told to it is durable. It takes time by the seats, and no memory.
     pub fn close(
         self,
         seats: Vec<Seat<L>>,
@@ -103,7 +109,7 @@ fn close_one<L: ExchangeName, P: ConfigPort, W: WireMaker, G, H: EntryLog>(
         mut entries,
         mut keeper,
     } = locked;
-    // Asked for only for its contract: all entries stand where they belong.
+    // Asked for only for its contract: all entries are durable.
     book.log();
     let mut all = gather(word, &mut keeper, seats);
     entries.audit(&mut all.share);
@@ -111,8 +117,8 @@ fn close_one<L: ExchangeName, P: ConfigPort, W: WireMaker, G, H: EntryLog>(
     Closed { book, plant }
 }
 
-// What is left of an exchange whose recorder was lent: all that waits is written, unless a writing
-// has failed.
+// What is left of an exchange whose recorder was lent: all that is pending is written, unless a
+// writing has failed.
 fn close_each<L: ExchangeName, P: ConfigPort, W: WireMaker, G, H: History>(
     book: BookState<L, P, W, G, H::Pending>,
     waiting: CommitQueue<L, H::Pending>,
@@ -191,8 +197,8 @@ fn compared<L: ExchangeName>(keeper: &mut Keeper<NotedEntry, L>, seat: Seat<L>) 
     access
 }
 
-// One access that has all that the seats had, whose lists are what their sessions made, and of which
-// the first could be told.
+// One access that has all that the seats had, whose lists are what their sessions made, and of
+// which the first could be told.
 fn gather<L: ExchangeName>(
     word: &ProgressWord,
     keeper: &mut Keeper<NotedEntry, L>,

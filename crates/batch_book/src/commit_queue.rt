@@ -1,6 +1,7 @@
-//! Where entries wait that the record's side takes over.
+//! The queue of entries on their way to the writer.
 
-ghost use Rattle.std.specs.Prelude.{◌≡◌, ◌+◌, ◌++◌, ◌∷◌, ◌≤◌, ◌<◌, ◌||◌, [], true, List, length, IsSome};
+ghost use Rattle.std.specs.Prelude.{◌≡◌, ◌+◌, ◌++◌, ◌∷◌, ◌≤◌, ◌<◌, ◌||◌, [], true, List, length};
+ghost use Rattle.std.specs.Prelude.{IsSome};
 ghost use Rattle.batch_book.specs.declared.entry.Entry.{Entry};
 ghost use Rattle.batch_book.specs.declared.limits.TheConstants.{BOOK_SIDE, RECORD_SIDE};
 ghost use Rattle.batch_book.specs.History.{IsPrefix};
@@ -18,7 +19,7 @@ use crate::naming::ExchangeName;
 use crate::noted::NotedEntry;
 use crate::pending_entries::PendingEntries;
 use crate::reply::Reply;
-use crate::seat::{SeatInner, Seat, mark};
+use crate::seat::{Seat, SeatInner, mark};
 use crate::unrecorded::Unrecorded;
 use session_lists::{Keeper, OwnList};
 use std::marker::PhantomData;
@@ -32,21 +33,20 @@ const SLOW: u64 = 1000;
 
 const LONGEST_NAP: u64 = 20_000;
 
-/// Where entries wait, under a lock of its own that is held for a moment only: the text of those
-/// that were handed on and weren't taken over yet, how many were handed on, the ledger's total, and
-/// the keeper of the lists.
+/// The queue of entries, under a lock of its own that is held for a moment only: the text of those
+/// that weren't drained yet, how many were queued, the ledger's total, and the keeper of the lists.
 ///
-/// Each entry has the next place. The book's side has noted all entries, and those that were handed
-/// on; the record's side those that were taken over. What could be told to a session are its first
+/// Each entry has the next place. The book's side has noted all entries, and those that were
+/// queued; the record's side those that were drained. What could be told to a session are its first
 /// entries up to the place that the record's side noted last.
 #[derive(Drop)]
 pub struct CommitQueue<L: ExchangeName, E: PendingEntries> {
     pub text: Vec<u8>,
     pub count: u64,
-    // Up to which place all entries stand where they belong.
+    // Up to which place all entries are durable.
     pub front: u64,
-    // Whether who writes waits for more entries first, up to which place some may soon come, and how
-    // many microseconds it naps meanwhile: none where a writing is quick.
+    // Whether who writes waits for more entries first, up to which place some may soon come, and
+    // how many microseconds it naps meanwhile: none where a writing is quick.
     pub groups_writes: bool,
     pub due: u64,
     pub nap: u64,
@@ -55,7 +55,7 @@ pub struct CommitQueue<L: ExchangeName, E: PendingEntries> {
     // How many writings were begun, and up to which place entries went with them.
     pub round: u64,
     pub taken_over: u64,
-    // Whether there was no memory to hand an entry on. Then it may go with a later writing.
+    // Whether there was no memory to queue an entry. Then it may go with a later writing.
     pub late: bool,
     pub queued: Snapshot<GhostHistory>,
     pub entries: ledger::Book<L>,
@@ -75,13 +75,13 @@ pub struct CommitQueue<L: ExchangeName, E: PendingEntries> {
 }
 
 impl<L: ExchangeName, E: PendingEntries> CommitQueue<L, E> {
-    /// Whether a writing has failed: not all that was taken over stands, and no seat writes. Then no
-    /// call is made any more.
+    /// Whether a writing has failed: not all that was drained is durable, and no seat writes. Then
+    /// no call is made any more.
     pub fn has_write_failed(&self) -> bool {
         !self.writes && self.front < self.taken_over
     }
 
-    /// Whether a seat writes, and not all entries up to this place stand.
+    /// Whether a seat writes, and not all entries up to this place are durable.
     pub fn must_wait(&self, place: u64) -> bool {
         self.writes && self.front < place
     }
@@ -109,8 +109,8 @@ impl<L: ExchangeName, E: PendingEntries> CommitQueue<L, E> {
         true
     }
 
-    /// A seat has written, in so many microseconds, since all entries up to this place stood. Each
-    /// whose entry was written may soon ask again.
+    /// A seat has written, in so many microseconds, since all entries up to this place were
+    /// durable. Each whose entry was written may soon ask again.
     pub fn end(&mut self, before: u64, micros: u64) {
         self.writes = false;
         self.due = self.count.saturating_add(self.front.saturating_sub(before));
@@ -121,8 +121,8 @@ impl<L: ExchangeName, E: PendingEntries> CommitQueue<L, E> {
         };
     }
 
-    /// Notes a call whose entry has this place, and takes in what the book's side hands on. Where
-    /// there is no memory for that it waits at the book.
+    /// Notes a call whose entry has this place, and queues what is pending at the book's side.
+    /// Without memory for that it stays there.
     pub fn enqueue(
         &mut self,
         book: &mut Book<E>,
@@ -172,8 +172,8 @@ impl<L: ExchangeName, E: PendingEntries> CommitQueue<L, E> {
         (own, its)
     }
 
-    /// Hands all that waits over to the record's side: all entries that were handed on, and how
-    /// many. Their text changes places with the spare one.
+    /// Drains the queue for the record's side: all entries that were queued, and how many. Their
+    /// text changes places with the spare one.
     pub fn take_queue(
         &mut self,
         own: OwnList<NotedEntry, L>,
@@ -200,8 +200,8 @@ impl<L: ExchangeName, E: PendingEntries> CommitQueue<L, E> {
         (all, self.count, own)
     }
 
-    /// Notes up to which place all entries stand where they belong, of those that the record's side
-    /// has taken over.
+    /// Notes up to which place all entries are durable, of those that the record's side has
+    /// drained.
     pub fn mark_durable(
         &mut self,
         own: OwnList<NotedEntry, L>,
@@ -221,8 +221,8 @@ impl<L: ExchangeName, E: PendingEntries> CommitQueue<L, E> {
         self.keeper.add(own, &note)
     }
 
-    /// Notes that all that the seat has asked can be told, if it stands where it belongs; else the
-    /// record of its calls is broken.
+    /// Notes that all that the seat has asked can be told, if it is durable; else the record of its
+    /// calls is broken.
     pub fn sync(&mut self, seat: &mut Seat<L>) -> Result<(), Unrecorded>
         requires { IsSome seat.old.exchange }
         ensures { IsSynced seat.old result seat.new }
@@ -232,7 +232,7 @@ impl<L: ExchangeName, E: PendingEntries> CommitQueue<L, E> {
             unreachable!()
         };
         if self.front < place.last {
-            // It was lost, or there was no memory to hand it on.
+            // It was lost, or there was no memory to queue it.
             seat.place = Some(place.break_off());
             return Err(Unrecorded);
         }
@@ -269,7 +269,7 @@ impl<L: ExchangeName, E: PendingEntries> CommitQueue<L, E> {
     }
 }
 
-// Takes in what the book's side hands on, where there is memory for it.
+// Drains what is pending at the book's side into the queue, where there is memory for it.
 fn drain_into<L: ExchangeName, E: PendingEntries>(
     book: &mut Book<E>,
     place: u64,

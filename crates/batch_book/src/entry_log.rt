@@ -16,7 +16,7 @@ pub trait EntryLog {
     /// The entries that were pushed, in order.
     ghost pushed: { Self → List Entry };
 
-    /// The first of them, which stand where they belong; or were handed on to who writes them.
+    /// The first of them: those that are durable, or were queued for who writes them.
     ghost durable: { Self → List Entry };
 
     /// Whether none of them is lost.
@@ -25,8 +25,8 @@ pub trait EntryLog {
     /// Whether their number is limited, to `MAX_ENTRIES`.
     ghost limited: { Bool };
 
-    /// Whether an entry waits until it is written, and may be lost. Else it stands where it belongs
-    /// as soon as it is pushed.
+    /// Whether an entry is pending until it is written, and may be lost. Else it is durable as soon
+    /// as it is pushed.
     ghost loses: { Bool };
 
     /// The entry of this call of a session was drafted.
@@ -40,7 +40,8 @@ pub trait EntryLog {
     fn has_room(&self) -> bool
         ensures { result ≡ has_room limited (length (pushed self.now)) };
 
-    /// Drafts the entry of a call of a session, and takes the room for its reply. Nothing is pushed.
+    /// Drafts the entry of a call of a session, and takes the room for its reply. Nothing is
+    /// pushed.
     fn draft(&mut self, session: usize, call: &Call) -> Result<(), AllocError>
         ensures pushed { pushed self.new ≡ pushed self.old }
         ensures durable { durable self.new ≡ durable self.old }

@@ -1,6 +1,7 @@
 //! Where the entries of an exchange go.
 
-ghost use Rattle.std.specs.Prelude.{◌≡◌, true, false, List, IfOk, IfErr, IfSome, IsSome, OnOk, OnErr};
+ghost use Rattle.std.specs.Prelude.{◌≡◌, true, false, List, IfOk, IfErr, IfSome, IsSome, OnOk};
+ghost use Rattle.std.specs.Prelude.{OnErr};
 ghost use Rattle.batch_book.specs.declared.entry.Entry.{Entry};
 ghost use Rattle.batch_book.specs.History.{IsPrefix};
 
@@ -37,10 +38,11 @@ pub trait History: EntryLog {
         ensures back { IfErr result (λ back. back ≡ self) };
 
     /// The history whose recorder is back. Unless a writing has failed it writes all that the
-    /// recorder hasn't got: this text of the entries that were handed on, and that of the others.
+    /// recorder hasn't got: this text of the entries that were queued, and that of the others.
     /// Nothing, where it lends no recorder.
     fn take_back(pending: Self::Pending, recorder: Self::Recorder, text: &[u8]) -> Option<Self>
-        requires durable { IsPrefix (Self.Recorder.durable recorder) (Self.Recorder.tried recorder) }
+        requires durable { IsPrefix (Self.Recorder.durable recorder)
+            (Self.Recorder.tried recorder) }
         requires first { IsPrefix (Self.Recorder.tried recorder) (Self.Pending.durable pending) }
         requires front { IsPrefix (Self.Pending.durable pending) (Self.Pending.pushed pending) }
         requires text { text.now ≡ Self.Recorder.texts (Self.Recorder.tried recorder)

@@ -7,8 +7,8 @@ use crate::entry::Entry;
 use crate::entry_log::EntryLog;
 use crate::history::History;
 use crate::limits::MAX_ENTRIES;
-use crate::recorder::NoRecorder;
 use crate::null_history::NullHistory;
+use crate::recorder::NoRecorder;
 use std::alloc::{AllocError, Global};
 
 /// The entries in memory, at most [`MAX_ENTRIES`] of them.
@@ -73,7 +73,11 @@ impl History for MemoryHistory {
         Err(self)
     }
 
-    fn take_back(_pending: NullHistory, _recorder: NoRecorder, _text: &[u8]) -> Option<MemoryHistory> {
+    fn take_back(
+        _pending: NullHistory,
+        _recorder: NoRecorder,
+        _text: &[u8],
+    ) -> Option<MemoryHistory> {
         None
     }
 }

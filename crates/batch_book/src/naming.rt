@@ -4,8 +4,8 @@ ghost use Rattle.std.specs.Prelude.{◌≡◌, IfOk};
 ghost use Rattle.progress_word.specs.declared.limits.TheConstants.{ALL_PARTS};
 
 use crate::noted::NotedEntry;
-use session_lists::{Fresh, HistoryName};
 use progress_word::ALL_PARTS;
+use session_lists::{Fresh, HistoryName};
 use std::alloc::{AllocError, Global};
 use std::marker::Brand;
 use std::sync::ledger::{Blank, Ledger};

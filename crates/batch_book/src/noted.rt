@@ -8,7 +8,7 @@ use crate::ghost_history::HistorySnapshot;
 use crate::naming::ExchangeName;
 use crate::reply::Reply;
 use crate::unrecorded::Unrecorded;
-use session_lists::{Keeper, SessionItem, OwnList};
+use session_lists::{Keeper, OwnList, SessionItem};
 use std::marker::Model;
 use std::snapshot::Snapshot;
 use std::sync::ledger;
@@ -68,8 +68,8 @@ impl NotedEntry {
         }
     }
 
-    /// What a side knows of all entries, and of those that were handed on, and up to which place
-    /// they stand where they belong.
+    /// What a side knows of all entries, and of those that were queued, and up to which place they
+    /// are durable.
     pub(crate) fn side(
         side: usize,
         place: u64,

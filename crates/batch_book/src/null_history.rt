@@ -82,7 +82,11 @@ impl History for NullHistory {
         Err(self)
     }
 
-    fn take_back(_pending: NullHistory, _recorder: NoRecorder, _text: &[u8]) -> Option<NullHistory> {
+    fn take_back(
+        _pending: NullHistory,
+        _recorder: NoRecorder,
+        _text: &[u8],
+    ) -> Option<NullHistory> {
         None
     }
 }

@@ -1,6 +1,7 @@
 //! How an exchange is made.
 
-ghost use Rattle.std.specs.Prelude.{◌≡◌, ◌↔◌, ◌≤◌, ◌<◌, ◌⊎◌, [], true, vec_capacity, Ok, IfOk, IfErr, OnOk};
+ghost use Rattle.std.specs.Prelude.{◌≡◌, ◌↔◌, ◌≤◌, ◌<◌, ◌⊎◌, [], true, vec_capacity, Ok, IfOk};
+ghost use Rattle.std.specs.Prelude.{IfErr, OnOk};
 ghost use Rattle.exchange_limits.specs.declared.limits.TheConstants.{MAX_SESSIONS};
 ghost use Rattle.progress_word.specs.declared.limits.TheConstants.{ALL_PARTS};
 ghost use Rattle.progress_word.specs.Watchers.{watcher_view};
@@ -16,20 +17,20 @@ use crate::book::{Book, lend};
 use crate::book_state::BookState;
 use crate::commit_queue::CommitQueue;
 use crate::history::History;
-use crate::memory_history::MemoryHistory;
 use crate::locked::LockedBook;
+use crate::memory_history::MemoryHistory;
 use crate::naming::{ExchangeBlank, ExchangeName};
 use crate::noted::NotedEntry;
 use crate::recorder::Recorder;
 use crate::seat::Seat;
-use crate::shared::{Shared, Locks};
+use crate::shared::{Locks, Shared};
 use crate::writer_state::{GroupCommit, WriterState};
 use crossbar::ConfigPort;
 use exchange_limits::MAX_SESSIONS;
 use module_memory::Rack;
-use session_lists::{Keeper, OwnList};
 use peek_poke::WireMaker;
 use progress_word::{ALL_PARTS, ProgressWord, Watcher};
+use session_lists::{Keeper, OwnList};
 use setting_runner::Plant;
 use std::alloc::Global;
 use std::marker::PhantomData;
@@ -126,8 +127,8 @@ impl<L: ExchangeName, P: ConfigPort, W: WireMaker, G> Shared<L, P, W, G, MemoryH
 }
 
 impl<L: ExchangeName, P: ConfigPort, W: WireMaker, G, H: History> Shared<L, P, W, G, H> {
-    /// An exchange over this book, which may have entries before, and this plant. Its word begins as
-    /// far as the runs of these have come. Else the same as [`new`](Shared::new).
+    /// An exchange over this book, which may have entries before, and this plant. Its word begins
+    /// as far as the runs of these have come. Else the same as [`new`](Shared::new).
     pub fn of_book(
         alloc: Global,
         blank: ExchangeBlank,
@@ -271,7 +272,7 @@ fn deal_sides<L: ExchangeName>(
     requires dealt { keeper.old.dealt ≡ sessions }
     requires few { sessions ≤ MAX_SESSIONS }
     ensures history { keeper.new.history ≡ [] }
-    ensures locks { (result.0.session ≡ BOOK_SIDE) × (result.1.session ≡ RECORD_SIDE) }
+    ensures sides { (result.0.session ≡ BOOK_SIDE) × (result.1.session ≡ RECORD_SIDE) }
     ensures lists { (result.0.list ≡ []) × (result.1.list ≡ []) }
 {
     for _list in sessions..MAX_SESSIONS {

@@ -9,8 +9,8 @@ use crate::ghost_history::GhostHistory;
 use std::alloc::AllocError;
 use std::snapshot::Snapshot;
 
-/// The entries of a history whose recorder is lent. What waits is handed on, and written by whoever
-/// has the recorder. Of these entries `durable` are those that were handed on.
+/// The entries of a history whose recorder is lent. What is pending is queued, and written by
+/// whoever has the recorder. Of these entries `durable` are those that were queued.
 pub trait PendingEntries: EntryLog {
     /// After these entries, of all of those, the text of the others.
     ghost texts: { List Entry → List Entry → List ℕ };
@@ -19,8 +19,8 @@ pub trait PendingEntries: EntryLog {
     fn past(&self) -> Snapshot<GhostHistory>
         ensures { result.value ≡ Self.pushed self.now };
 
-    /// Hands on what waits: puts its text after this one. Where there is no memory for it nothing
-    /// changes.
+    /// Queues what is pending: puts its text after this one. Where there is no memory for it
+    /// nothing changes.
     fn queue_text(&mut self, text: &mut Vec<u8>) -> Result<(), AllocError>
         ensures pushed { Self.pushed self.new ≡ Self.pushed self.old }
         ensures whole { Self.whole self.new ≡ Self.whole self.old }

@@ -1,4 +1,4 @@
-//! Where entries are written that wait.
+//! Where pending entries are written.
 
 ghost use Rattle.std.specs.Prelude.{◌≡◌, [], true, false, ℕ, Bool, List, OnOk, OnErr};
 ghost use Rattle.batch_book.specs.declared.entry.Entry.{Entry};
@@ -8,13 +8,14 @@ use crate::ghost_history::HistorySnapshot;
 use crate::unrecorded::Unrecorded;
 use std::snapshot::Snapshot;
 
-/// Where the entries of a book are written once they were taken over, many at a time. It has a lock
-/// of its own.
+/// Where the entries of a book are written once they were drained from the queue, many at a time.
+/// It has a lock of its own.
 pub trait Recorder {
     /// The entries that stand there, in order.
     ghost durable: { Self → List Entry };
 
-    /// Those that were taken over: some of the last ones may not stand there once a writing has failed.
+    /// Those that it was given: some of the last ones may be missing there once a writing has
+    /// failed.
     ghost tried: { Self → List Entry };
 
     /// Whether no writing has failed.
@@ -31,7 +32,7 @@ pub trait Recorder {
     /// Whether a writing takes so long that who writes waits for more entries first.
     fn groups_writes(&self) -> bool;
 
-    /// Writes the text of all of these entries that weren't taken over yet.
+    /// Writes the text of all of these entries that it wasn't given yet.
     fn append(&mut self, all: &HistorySnapshot, text: &[u8]) -> Result<(), Unrecorded>
         requires whole { whole self.old ≡ true }
         requires first { IsPrefix (tried self.old) all.now.value.value }

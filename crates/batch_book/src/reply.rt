@@ -3,9 +3,9 @@ ghost use Rattle.batch_book.specs.Replies.{is_logged};
 ghost use Rattle.batch_book.specs.Told.{IsKeptOf};
 ghost use Rattle.batch_book.specs.Values.{value_of};
 
-use crate::stored_batch::BatchState;
 use crate::limits::{MAX_NUMBER, RUN_STEP};
 use crate::refusal::BookRefusal;
+use crate::stored_batch::BatchState;
 use batch::Batch;
 use setting_runner::{Moved, RunRefusal, StopCause};
 

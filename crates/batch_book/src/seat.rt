@@ -10,8 +10,8 @@ ghost use Rattle.batch_book.specs.Seats.{open_seat, raised_for};
 use crate::access::ExchangeAccess;
 use crate::naming::ExchangeName;
 use crate::noted::NotedEntry;
-use session_lists::{Keeper, OwnList};
 use progress_word::ALL_PARTS;
+use session_lists::{Keeper, OwnList};
 use std::marker::Model;
 
 /// What a seat has of its exchange: its access, its session's list, after which place it has no

@@ -7,9 +7,9 @@ ghost use Rattle.batch_book.specs.Values.{value_at};
 
 use crate::call::Call;
 use crate::history::History;
-use crate::memory_history::MemoryHistory;
 use crate::limits::RUN_STEP;
 use crate::locked::LockedBook;
+use crate::memory_history::MemoryHistory;
 use crate::naming::ExchangeName;
 use crate::reading::Reading;
 use crate::reply::Reply;
@@ -30,13 +30,13 @@ use std::time::Clock;
 
 /// How often a call looks in a row whether the lock is free. That takes some microseconds, in which
 /// most calls of others are done.
-const SPINS: usize = 30;
+const LOCK_SPINS: usize = 30;
 
 /// How long it pauses between two looks.
 const PAUSES: usize = 10;
 
 /// How often it lets other threads run, before it sleeps until the lock is free.
-const YIELDS: usize = 100;
+const LOCK_YIELDS: usize = 100;
 
 /// Pauses between two looks.
 fn pause() {
@@ -47,7 +47,7 @@ fn pause() {
 
 // What is under the lock, if it comes free within some looks.
 fn try_lock_spinning<T>(lock: &Mutex<T>) -> Option<MutexGuard<'_, T>> {
-    for _ in 0..SPINS {
+    for _ in 0..LOCK_SPINS {
         if let Some(guard) = lock.try_lock() {
             return Some(guard);
         }
@@ -56,10 +56,10 @@ fn try_lock_spinning<T>(lock: &Mutex<T>) -> Option<MutexGuard<'_, T>> {
     None
 }
 
-// What is under the lock, once it is free. Who sleeps for it is woken by a call of the system, which
-// takes longer than most calls of a book. So a thread lets others run some times first.
+// What is under the lock, once it is free. Who sleeps for it is woken by a call of the system,
+// which takes longer than most calls of a book. So a thread lets others run some times first.
 fn lock_spinning<'b, T, R: Wait>(rt: &R, lock: &'b Mutex<T>) -> MutexGuard<'b, T> {
-    for _ in 0..YIELDS {
+    for _ in 0..LOCK_YIELDS {
         if let Some(guard) = try_lock_spinning(lock) {
             return guard;
         }
@@ -83,7 +83,7 @@ pub struct Shared<L: ExchangeName, P: ConfigPort, W: WireMaker, G, H: History = 
 pub(crate) enum Locks<L: ExchangeName, P: ConfigPort, W: WireMaker, G, H: History> {
     /// All under one, where no entry can be lost.
     Single(Mutex<LockedBook<L, P, W, G, H>>),
-    /// The book, what waits and the record under one each, where the recorder is lent.
+    /// The book, the queue and the record under one each: group commit.
     Group(GroupCommit<L, P, W, G, H>),
 }
 
@@ -126,8 +126,8 @@ impl<L: ExchangeName, P: ConfigPort, W: WireMaker, G, H: History> Shared<L, P, W
         self.shape
     }
 
-    /// Whether the seat may have asked something that can't be told yet: never where no entry can be
-    /// lost. It takes no lock.
+    /// Whether the seat may have asked something that can't be told yet: never where no entry can
+    /// be lost. It takes no lock.
     pub fn has_pending(&self, seat: &Seat<L>) -> bool
         ensures { result ≡ true → H.loses ≡ true }
     {
@@ -168,15 +168,16 @@ impl<L: ExchangeName, P: ConfigPort, W: WireMaker + Sync, G: Gate + Sync, H: His
     G,
     H,
 > {
-    /// One call of the seat's session, and its reply: it takes the lock, and applies the call to the
-    /// book. Call and reply are added to what the seat asked, where they are in the history. The
-    /// seat has then seen what the reply tells of a run, and nothing new where it tells of none.
+    /// One call of the seat's session, and its reply: it takes the lock, and applies the call to
+    /// the book. Call and reply are added to what the seat asked, where they are in the history.
+    /// The seat has then seen what the reply tells of a run, and nothing new where it tells of
+    /// none.
     ///
-    /// The reply may be told once the seat is [settled](Shared::sync): at once, where no entry can
+    /// The reply may be told once the seat is [synced](Shared::sync): at once, where no entry can
     /// be lost. Where entries were lost before, the call isn't made.
     ///
     /// It waits until the calls of other seats that go before it are done, runs included. It takes
-    /// the memory that the book takes, and for a recorder that is lent that of the text that waits.
+    /// the memory that the book takes, and with group commit that of the pending text.
     pub fn try_call<R: Threads + Wait + Sync>(
         &self,
         rt: &R,
@@ -211,14 +212,14 @@ impl<L: ExchangeName, P: ConfigPort, W: WireMaker + Sync, G: Gate + Sync, H: His
         }
     }
 
-    /// Sees to it that all that the seat has asked can be told: where its last entry waits, all
-    /// entries that wait are put where they belong, whoever's they are. Where nothing of it waits it
-    /// takes no lock. Where an entry is lost, or the text that waits found no memory, no more can be
+    /// Syncs a seat, so that all that it has asked can be told: where its last entry is pending,
+    /// all pending entries become durable, whoever's they are. Where nothing of it is pending it
+    /// takes no lock. Where an entry is lost, or the pending text found no memory, no more can be
     /// told to the seat than before.
     ///
     /// Where the history lends its recorder one seat writes at a time, and others make calls
-    /// meanwhile, runs included. Who settles meanwhile sleeps until that one has written, unless all
-    /// of its own entries stand.
+    /// meanwhile, runs included. Who syncs meanwhile sleeps until that one has written, unless all
+    /// of its own entries are durable.
     pub fn sync<R: Wait + Clock>(&self, rt: &R, seat: &mut Seat<L>) -> Result<(), Unrecorded>
         requires { seat.old.exchange ≡ Some self.now.word }
         ensures settled { IsSynced seat.old result seat.new }

@@ -1,4 +1,4 @@
-//! What lies under the lock of the record, and how a seat is settled.
+//! What lies under the lock of the record, and how a seat is synced.
 
 ghost use Rattle.std.specs.Prelude.{◌≡◌, ◌+◌, [], true, List, length, IsSome};
 ghost use Rattle.std.specs.Option.{option_map_or};
@@ -20,20 +20,21 @@ use crate::recorder::Recorder;
 use crate::seat::Seat;
 use crate::unrecorded::Unrecorded;
 use crossbar::ConfigPort;
-use session_lists::OwnList;
 use peek_poke::WireMaker;
+use session_lists::OwnList;
 use std::sync::{Condvar, Mutex, MutexGuard, Wait};
 use std::thread::{sleep, yield_now};
 use std::time::{Clock, Duration, Instant};
 
 /// How often a seat lets other threads run while more entries come, before it writes, or while
-/// another writes, before it sleeps: where none waits for the disk a writing is done sooner than who
-/// sleeps is woken.
-const YIELDS: usize = 8;
+/// another writes, before it sleeps: where none waits for the disk a writing is done sooner than
+/// who sleeps is woken.
+const GROUP_YIELDS: usize = 8;
 /// How often it looks where who writes waits for more entries: not at all where that takes long.
-const SPINS: usize = 2;
+const GROUP_SPINS: usize = 2;
 
-/// The recorder, all that were taken over, the list of what was noted of these, and a spare buffer.
+/// The recorder, all entries that were drained, the list of what was noted of these, and a spare
+/// buffer.
 #[derive(Drop)]
 pub struct WriterState<L: ExchangeName, H: History> {
     pub recorder: H::Recorder,
@@ -53,8 +54,8 @@ pub struct WriterState<L: ExchangeName, H: History> {
 }
 
 impl<L: ExchangeName, H: History> WriterState<L, H> {
-    /// Takes over all that waits, and writes it at once. Meanwhile others make calls. Where that
-    /// fails, or a writing failed before, no more stands than before.
+    /// Drains the queue, and writes it at once. Meanwhile others make calls. Where that fails, or a
+    /// writing failed before, no more is durable than before.
     fn flush<R: Wait>(&mut self, rt: &R, waiting: &Mutex<CommitQueue<L, H::Pending>>) {
         if !self.recorder.is_whole() {
             return;
@@ -79,10 +80,9 @@ impl<L: ExchangeName, H: History> WriterState<L, H> {
     }
 }
 
-/// What lies under the locks of an exchange whose recorder is lent: the book, what waits, and the
-/// record; and where seats sleep while another writes. Who has the book's lock or the record's may
-/// wait for that of what waits. Nobody waits for one of those two who has the other, or that of what
-/// waits.
+/// What lies under the locks of an exchange with group commit: the book, the queue and the record;
+/// and where seats sleep while another writes. Who has the book's lock or the record's may wait for
+/// the queue's. Nobody waits for one of those two who has the other, or the queue's.
 #[derive(Drop)]
 pub struct GroupCommit<L: ExchangeName, P: ConfigPort, W: WireMaker, G, H: History> {
     pub book: Mutex<BookState<L, P, W, G, H::Pending>>,
@@ -95,10 +95,10 @@ pub struct GroupCommit<L: ExchangeName, P: ConfigPort, W: WireMaker, G, H: Histo
 }
 
 impl<L: ExchangeName, P: ConfigPort, W: WireMaker, G, H: History> GroupCommit<L, P, W, G, H> {
-    /// Sees to it that all that the seat has asked can be told. While another seat writes, one whose
-    /// last entry doesn't stand sleeps. Then it writes all that waits, if that entry still doesn't
-    /// stand and no writing has failed. `Err` where one has, or there was no memory to hand the
-    /// entry on.
+    /// Syncs a seat, so that all that it has asked can be told. While another seat writes, one
+    /// whose last entry isn't durable sleeps. Then it writes the whole queue, if that entry still
+    /// isn't durable and no writing has failed. `Err` where one has, or there was no memory to
+    /// queue the entry.
     ///
     /// Each writing wakes all whose entries it wrote, and one of those who wait for the next one,
     /// which then writes. So who sleeps does so at `odd` or `even`, by the number of its entry's
@@ -117,7 +117,11 @@ impl<L: ExchangeName, P: ConfigPort, W: WireMaker, G, H: History> GroupCommit<L,
         if writes {
             let (groups_writes, front) = (side.groups_writes, side.front);
             gather(rt, &self.waiting, side);
-            let began = if groups_writes { Instant::now(rt).ok() } else { None };
+            let began = if groups_writes {
+                Instant::now(rt).ok()
+            } else {
+                None
+            };
             self.record.lock(rt).flush(rt, &self.waiting);
             side = self.waiting.lock(rt);
             side.end(front, micros_since(rt, began));
@@ -158,7 +162,7 @@ fn gather<L: ExchangeName, E: PendingEntries, R: Wait + Clock>(
     waiting: &Mutex<CommitQueue<L, E>>,
     side: MutexGuard<CommitQueue<L, E>>,
 ) {
-    let turns = if side.groups_writes { YIELDS } else { 0 };
+    let turns = if side.groups_writes { GROUP_YIELDS } else { 0 };
     let nap = Duration::from_micros(side.nap);
     let (mut count, due) = (side.count, side.due);
     drop(side);
@@ -179,7 +183,7 @@ fn gather<L: ExchangeName, E: PendingEntries, R: Wait + Clock>(
     }
 }
 
-// What waits, once all entries up to this place stand, or no seat writes.
+// The queue, once all entries up to this place are durable, or no seat writes.
 fn wait_until_durable<'b, L: ExchangeName, E: PendingEntries, R: Wait>(
     rt: &R,
     waiting: &'b Mutex<CommitQueue<L, E>>,
@@ -189,8 +193,8 @@ fn wait_until_durable<'b, L: ExchangeName, E: PendingEntries, R: Wait>(
 ) -> MutexGuard<'b, CommitQueue<L, E>> {
     let mut side = waiting.lock(rt);
     let looks = match (side.groups_writes, side.nap) {
-        (false, _) => YIELDS,
-        (true, 0) => SPINS,
+        (false, _) => GROUP_YIELDS,
+        (true, 0) => GROUP_SPINS,
         (true, _) => 0,
     };
     for _ in 0..looks {

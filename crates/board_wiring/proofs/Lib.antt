@@ -2,5 +2,5 @@ mod Modules
 mod Lines
 mod OneReading
 mod Placing
-mod ReadLacks
+mod ReadMissing
 pub mod ReadBoards

@@ -1,5 +1,6 @@
 -- The modules of a wiring: one more, and those in front.
-use Rattle.std.proofs.Common.{◌≡◌, ◌<◌, ◌≤◌, ◌+◌, ◌-◌, ◌==◌, ◌&&◌, ◌||◌, ℕ, zero, suc, Bool, true, false, not, List, [], ◌∷◌, ◌++◌, length, take, get_or, Option, None, Some, refl, sym, ap, ap₂, ◌∙◌, subst, IsTrue, arith, nat_lt, nat_le}
+use Rattle.std.proofs.Common.{◌≡◌, ◌<◌, ◌≤◌, ◌+◌, ◌-◌, ◌==◌, ◌&&◌, ◌||◌, ℕ, zero, suc, Bool, true, false, not, List, [], ◌∷◌, ◌++◌, length, take, get_or, Option, None, Some, refl, sym, ap, ap₂, ◌∙◌}
+use Rattle.std.proofs.Common.{subst, IsTrue, arith, nat_lt, nat_le}
 use Rattle.std.specs.List.{AllByRecursion, list_any, list_all}
 use Rattle.std.proofs.lemmas.Bool.Decides.{nat_tests}
 use Rattle.std.proofs.lemmas.List.{append-nil, length_push, take_more}
@@ -58,7 +59,8 @@ and_assoc false b c = refl
 rising_more : (l : ℕ) (ms : List WiredModule) (on : WiredModule) → are_rising l (ms ++ on ∷ []) ≡ (are_rising l ms && nat_le (after_last l ms) on.number)
 rising_more l [] on = and_true (nat_le l on.number)
 rising_more l (m ∷ ms) on =
-    ap (λ b. nat_le l m.number && b) (rising_more (m.number + 1) ms on) ∙ and_assoc (nat_le l m.number) (are_rising (m.number + 1) ms) (nat_le (after_last (m.number + 1) ms) on.number)
+    ap (λ b. nat_le l m.number && b) (rising_more (m.number + 1) ms on) ∙ and_assoc (nat_le l m.number) (are_rising (m.number + 1) ms)
+    (nat_le (after_last (m.number + 1) ms) on.number)
 
 rising_front : (l : ℕ) (ms ns : List WiredModule) → are_rising l (ms ++ ns) ≡ true → are_rising l ms ≡ true
 rising_front l [] ns e = refl
@@ -72,10 +74,12 @@ last_after l [] on = refl
 last_after l (m ∷ ms) on = last_after (m.number + 1) ms on
 
 -- so it is the number after that of the last
-pub width_at : (lines : List WiredModule) (count : ℕ) (d : WiredModule) → 1 ≤ count → count ≤ length lines → (get_or lines (count - 1) d).number + 1 ≡ after_last 0 (take count lines)
+pub width_at : (lines : List WiredModule) (count : ℕ) (d : WiredModule) → 1 ≤ count → count ≤ length lines → (get_or lines (count - 1) d).number + 1
+    ≡ after_last 0 (take count lines)
 width_at lines count d some le =
     let e : count ≡ count - 1 + 1 = omega arith in
-    sym (ap (λ n. after_last 0 (take n lines)) e ∙ ap (after_last 0) (take_more lines (count - 1) d (omega arith)) ∙ last_after 0 (take (count - 1) lines) (get_or lines (count - 1) d))
+    sym (ap (λ n. after_last 0 (take n lines)) e ∙ ap (after_last 0) (take_more lines (count - 1) d (omega arith)) ∙ last_after 0 (take (count - 1) lines)
+    (get_or lines (count - 1) d))
 
 pub goes_up : (l : ℕ) (ms : List WiredModule) → are_rising l ms ≡ true → l + length ms ≤ after_last l ms
 goes_up l [] e = omega arith
@@ -125,7 +129,8 @@ two_free true true false false false = refl
 are_links : List ℕ → Bool
 are_links xs = has_all xs && are_distinct xs
 
-free_more : (xs : List ℕ) (a b : Option ℕ) → has_all xs ≡ true → are_distinct xs ≡ true → are_links (xs ++ (given a ++ given b)) ≡ (is_free_in xs a && (is_free_in xs b && not (is_one a b)))
+free_more : (xs : List ℕ) (a b : Option ℕ) → has_all xs ≡ true → are_distinct xs ≡ true → are_links (xs ++ (given a ++ given b))
+    ≡ (is_free_in xs a && (is_free_in xs b && not (is_one a b)))
 unfolding are_links
 free_more xs None None h d = ap are_links (append-nil xs) ∙ and_both (has_all xs) (are_distinct xs) h d
 free_more xs (Some a) None h d =
@@ -160,10 +165,14 @@ pub wired_more : (ms : List WiredModule) (on : WiredModule) → IsTrue (are_wire
 unfolding are_links
 wired_more ms on own =
     let w = wired_parts ms own in
-    let links : are_links (all_given (ms ++ on ∷ [])) ≡ (is_free_in (all_given ms) on.link0 && (is_free_in (all_given ms) on.link3 && not (is_one on.link0 on.link3))) = ap are_links (given_more ms on) ∙ free_more (all_given ms) on.link0 on.link3 w.had w.distinct in
-    let rising : are_rising 0 (ms ++ on ∷ []) ≡ nat_le (after_last 0 ms) on.number = rising_more 0 ms on ∙ ap (λ b. b && nat_le (after_last 0 ms) on.number) w.rising in
+    let links : are_links (all_given (ms ++ on ∷ []))
+    ≡ (is_free_in (all_given ms) on.link0 && (is_free_in (all_given ms) on.link3 && not (is_one on.link0 on.link3))) = ap are_links (given_more ms on)
+    ∙ free_more (all_given ms) on.link0 on.link3 w.had w.distinct in
+    let rising : are_rising 0 (ms ++ on ∷ []) ≡ nat_le (after_last 0 ms) on.number = rising_more 0 ms on ∙ ap (λ b. b && nat_le (after_last 0 ms) on.number)
+    w.rising in
     let joined : are_joined (ms ++ on ∷ []) ≡ nat_lt on.number JOINED_MODULES =
-    list_all-append (λ (m : WiredModule). nat_lt m.number JOINED_MODULES) ms (on ∷ []) ∙ ap (λ b. b && (nat_lt on.number JOINED_MODULES && true)) w.joined ∙ joined_more (nat_lt on.number JOINED_MODULES) in
+    list_all-append (λ (m : WiredModule). nat_lt m.number JOINED_MODULES) ms (on ∷ []) ∙ ap (λ b. b && (nat_lt on.number JOINED_MODULES && true)) w.joined
+    ∙ joined_more (nat_lt on.number JOINED_MODULES) in
     ap₂ (λ n l. n && l) (ap₂ (λ r j. r && j) rising joined) links
 
 -- a link is taken where it stands among those of the modules
@@ -199,7 +208,8 @@ wired_front ms ns own =
     of_parts ms (record {
       rising = rising_front 0 ms ns w.rising;
       joined = and_left (are_joined ms) (are_joined ns) (sym (list_all-append (λ (m : WiredModule). nat_lt m.number JOINED_MODULES) ms ns) ∙ w.joined);
-      had = and_left (has_all (all_given ms)) (has_all (all_given ns)) (sym (list_all-append (λ link. nat_lt link PORTS) (all_given ms) (all_given ns)) ∙ ap has_all (sym split) ∙ w.had);
+      had = and_left (has_all (all_given ms)) (has_all (all_given ns)) (sym (list_all-append (λ link. nat_lt link PORTS) (all_given ms) (all_given ns))
+          ∙ ap has_all (sym split) ∙ w.had);
       distinct = distinct_front (all_given ms) (all_given ns) (ap are_distinct (sym split) ∙ w.distinct);
     })
 
@@ -220,7 +230,11 @@ ported_parts (m ∷ ms) j h =
     let own = sym (list_all-append (λ link. nat_lt link PORTS) (given m.link0) (given m.link3)) ∙ and_left (has (given_links m)) (has (all_given ms)) split in
     let first = and_left (nat_lt m.number JOINED_MODULES) (are_joined ms) j in
     let lt : m.number < JOINED_MODULES = grind (arith, nat_tests) in (
-      (lt, port_given m.link0 (and_left (has (given m.link0)) (has (given m.link3)) own), port_given m.link3 (and_right (has (given m.link0)) (has (given m.link3)) own)),
+      (
+        lt,
+        port_given m.link0 (and_left (has (given m.link0)) (has (given m.link3)) own),
+        port_given m.link3 (and_right (has (given m.link0)) (has (given m.link3)) own),
+      ),
       ported_parts ms (and_right (nat_lt m.number JOINED_MODULES) (are_joined ms) j) (and_right (has (given_links m)) (has (all_given ms)) split),
     )
 

@@ -46,7 +46,8 @@ going : (ts us : List WiredModule) (r s : List ℕ) → Both ts us r s → lengt
 going ts us r s b le = goes_on ts us r s (ported ts b.ts_wired) (ported us b.us_wired) le b.same
 
 -- where more lines of a wiring follow, a list of lines doesn't end
-next_stands : (ts more us : List WiredModule) (r s : List ℕ) → IsTrue (are_wired us) → us ≡ ts ++ more → r ≡ lines_of more ++ s → 0 < length more → EndsAt ts r → ⊥
+next_stands : (ts more us : List WiredModule) (r s : List ℕ) → IsTrue (are_wired us) → us ≡ ts ++ more → r ≡ lines_of more ++ s → 0 < length more → EndsAt ts r
+    → ⊥
 next_stands ts [] us r s own list rest some ends = absurd (omega arith)
 next_stands ts (v ∷ vs) us r s own list rest some ends =
     ends v (lines_of vs ++ s) (rest ∙ append_assoc (line v) (lines_of vs) s)
@@ -88,7 +89,8 @@ one_wiring text a b da db =
 
 -- lines that stop don't go on as those of a wiring
 no_stop : (x y : List ℕ) (n m : ℕ) (fault : WiringFault) (us : List WiredModule) (s : List ℕ) → x ≡ y → n ≡ m → StopsAt x n fault → AreModules y m us s → ⊥
-no_stop x y n m (Line k) us s e f stops are = early stops.0 us stops.1 s (both x y _ m stops.0 us stops.1 s e stops.2 are) (omega (arith, stops.3, f, are.counted)) stops.4
+no_stop x y n m (Line k) us s e f stops are = early stops.0 us stops.1 s (both x y _ m stops.0 us stops.1 s e stops.2 are)
+    (omega (arith, stops.3, f, are.counted)) stops.4
 
 pub apart : NeverBoth
 apart text ms fault d (at_head none e) = none (length ms) (lines_of ms) (headed text ms d)

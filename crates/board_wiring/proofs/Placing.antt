@@ -1,5 +1,6 @@
 -- A usual wiring, in which two links are exchanged for each link that isn't left out.
-use Rattle.std.proofs.Common.{◌≡◌, ◌≢◌, ◌<◌, ◌≤◌, ◌+◌, ◌==◌, ◌&&◌, ◌||◌, ℕ, Bool, true, false, not, List, [], ◌∷◌, ◌++◌, length, map, take, drop, get_or, All, Option, None, Some, IfSome, IfNone, zero, suc, refl, sym, ap, ap₂, ◌∙◌, subst, IsTrue, arith, nat_lt, nat_le}
+use Rattle.std.proofs.Common.{◌≡◌, ◌≢◌, ◌<◌, ◌≤◌, ◌+◌, ◌==◌, ◌&&◌, ◌||◌, ℕ, Bool, true, false, not, List, [], ◌∷◌, ◌++◌, length, map, take, drop, get_or, All, Option, None, Some, IfSome, IfNone, zero}
+use Rattle.std.proofs.Common.{suc, refl, sym, ap, ap₂, ◌∙◌, subst, IsTrue, arith, nat_lt, nat_le}
 use Rattle.std.proofs.lemmas.Bool.Decides.{nat_tests}
 use Rattle.std.proofs.lemmas.List.{get_or-map, get_or-take, length-map, length-take, take-append-drop, take_more}
 use Rattle.std.proofs.lemmas.List.Elements.{All-push}
@@ -30,16 +31,22 @@ wiring_front ms ns own few =
     let w = wiring_parts (ms ++ ns) own in
     let split = flat_map-append both_links ms ns in
     of_parts ms few
-    (and_left (has_all (all_links ms)) (has_all (all_links ns)) (sym (list_all-append (λ link. nat_lt link PORTS) (all_links ms) (all_links ns)) ∙ ap has_all (sym split) ∙ w.had))
+    (and_left (has_all (all_links ms)) (has_all (all_links ns)) (sym (list_all-append (λ link. nat_lt link PORTS) (all_links ms) (all_links ns))
+    ∙ ap has_all (sym split) ∙ w.had))
     (distinct_front (all_links ms) (all_links ns) (ap are_distinct (sym split) ∙ w.distinct))
 
 -- with one module more of a wiring there is still one
-pub next_wired : (all ms : List ModuleLinks) (n : ℕ) (on : ModuleLinks) → IsTrue (is_wiring all) → length all ≤ JOINED_MODULES → n < length all → ms ≡ take n all → get_or all n unwired ≡ on → (ms ++ on ∷ [] ≡ take (n + 1) all) × IsTrue (is_wiring (ms ++ on ∷ []))
+pub next_wired : (all ms : List ModuleLinks) (n : ℕ) (on : ModuleLinks) → IsTrue (is_wiring all) → length all ≤ JOINED_MODULES → n < length all → ms
+    ≡ take n all → get_or all n unwired ≡ on → (ms ++ on ∷ [] ≡ take (n + 1) all) × IsTrue (is_wiring (ms ++ on ∷ []))
 next_wired all ms n on own few lt front at =
-    let more : ms ++ on ∷ [] ≡ take (n + 1) all = ap₂ (λ (x : List ModuleLinks) (y : ModuleLinks). x ++ y ∷ []) front (sym at) ∙ sym (take_more all n unwired lt) in
+    let more : ms ++ on ∷ [] ≡ take (n + 1) all = ap₂ (λ (x : List ModuleLinks) (y : ModuleLinks). x ++ y ∷ []) front (sym at)
+    ∙ sym (take_more all n unwired lt) in
     let whole = take-append-drop (n + 1) all in
-    let len : length (take (n + 1) all) ≤ JOINED_MODULES = omega (arith, length-take (n + 1) all, few) in
-    (more, subst (λ (x : List ModuleLinks). IsTrue (is_wiring x)) (sym more) (wiring_front (take (n + 1) all) (drop (n + 1) all) (subst (λ (x : List ModuleLinks). IsTrue (is_wiring x)) (sym whole) own) len))
+    let len : length (take (n + 1) all) ≤ JOINED_MODULES = omega (arith, length-take (n + 1) all, few) in (
+      more,
+      subst (λ (x : List ModuleLinks). IsTrue (is_wiring x)) (sym more)
+          (wiring_front (take (n + 1) all) (drop (n + 1) all) (subst (λ (x : List ModuleLinks). IsTrue (is_wiring x)) (sym whole) own) len),
+    )
 
 -- ---- the usual one
 
@@ -78,7 +85,8 @@ links_exchanged : (one other : ℕ) (ms : List ModuleLinks) → all_links (map (
 links_exchanged one other [] = refl
 links_exchanged one other (m ∷ ms) = ap (λ (xs : List ℕ). exchange one other m.link0 ∷ exchange one other m.link3 ∷ xs) (links_exchanged one other ms)
 
-pub wired_exchanged : (one other : ℕ) (ms : List ModuleLinks) → one < PORTS → other < PORTS → IsTrue (is_wiring ms) → IsTrue (is_wiring (map (exchange_on one other) ms))
+pub wired_exchanged : (one other : ℕ) (ms : List ModuleLinks) → one < PORTS → other < PORTS → IsTrue (is_wiring ms)
+    → IsTrue (is_wiring (map (exchange_on one other) ms))
 wired_exchanged one other ms p q own =
     let w = wiring_parts ms own in
     let links = links_exchanged one other ms in
@@ -86,14 +94,17 @@ wired_exchanged one other ms p q own =
     (ap has_all links ∙ had_exchanged one other (all_links ms) p q w.had)
     (ap are_distinct links ∙ distinct_exchanged one other (all_links ms) ∙ w.distinct)
 
-at_exchanged : (one other : ℕ) (ws : List ModuleLinks) (m : ℕ) → m < length ws → get_or (map (exchange_on one other) ws) m unwired ≡ exchange_on one other (get_or ws m unwired)
+at_exchanged : (one other : ℕ) (ws : List ModuleLinks) (m : ℕ) → m < length ws → get_or (map (exchange_on one other) ws) m unwired
+    ≡ exchange_on one other (get_or ws m unwired)
 at_exchanged one other ws m lt = get_or-map (exchange_on one other) ws m unwired unwired lt
 
 on_links : ℕ → ℕ → ModuleLinks
 on_links a b = record { link0 = a; link3 = b }
 
 -- one module more
-pub next_exchanged : (one other : ℕ) (ws ms : List ModuleLinks) (n : ℕ) (was on : ModuleLinks) → one < PORTS → other < PORTS → IsTrue (is_wiring ws) → n < length ws → ms ≡ take n (map (exchange_on one other) ws) → was ≡ get_or ws n unwired → on.link0 ≡ exchange one other was.link0 → on.link3 ≡ exchange one other was.link3
+pub next_exchanged : (one other : ℕ) (ws ms : List ModuleLinks) (n : ℕ) (was on : ModuleLinks) → one < PORTS → other < PORTS → IsTrue (is_wiring ws)
+    → n < length ws → ms ≡ take n (map (exchange_on one other) ws) → was ≡ get_or ws n unwired → on.link0 ≡ exchange one other was.link0 → on.link3
+    ≡ exchange one other was.link3
     → (ms ++ on ∷ [] ≡ take (n + 1) (map (exchange_on one other) ws)) × IsTrue (is_wiring (ms ++ on ∷ []))
 unfolding on_links
 next_exchanged one other ws ms n was on p q own lt front at e0 e3 =
@@ -123,11 +134,13 @@ stays one other v p q = grind (arith, nat_tests)
 goes : (one other : ℕ) → exchange one other one ≡ other
 goes one other = grind (arith, nat_tests)
 
-keep_part : (link : Option ℕ) (one other v w : ℕ) → w ≡ exchange one other v → v ≢ one → IfSome link (λ l. l ≢ other) → IfSome link (λ l. v ≡ l) → IfSome link (λ l. w ≡ l)
+keep_part : (link : Option ℕ) (one other v w : ℕ) → w ≡ exchange one other v → v ≢ one → IfSome link (λ l. l ≢ other) → IfSome link (λ l. v ≡ l)
+    → IfSome link (λ l. w ≡ l)
 keep_part None one other v w e off ne is = tt
 keep_part (Some k) one other v w e off ne is = e ∙ stays one other v off (λ s. ne (sym is ∙ s)) ∙ is
 
-kept0 : (ws : List ModuleLinks) (on : WiredModule) (n l : ℕ) → IsTrue (is_wiring ws) → on.number < length ws → n < length ws → on.number ≢ n → Avoids on l → KeptIn ws on → KeptIn (map (exchange_on (get_or ws n unwired).link0 l) ws) on
+kept0 : (ws : List ModuleLinks) (on : WiredModule) (n l : ℕ) → IsTrue (is_wiring ws) → on.number < length ws → n < length ws → on.number ≢ n → Avoids on l
+    → KeptIn ws on → KeptIn (map (exchange_on (get_or ws n unwired).link0 l) ws) on
 kept0 ws on n l own a b ne avoids kept =
     let one = (get_or ws n unwired).link0 in
     let at = at_exchanged one l ws on.number a in (
@@ -135,7 +148,8 @@ kept0 ws on n l own a b ne avoids kept =
       keep_part on.link3 one l _ _ (ap (λ (x : ModuleLinks). x.link3) at) (λ e. never_one ws n on.number unwired own b a (sym e)) avoids.1 kept.1,
     )
 
-kept3 : (ws : List ModuleLinks) (on : WiredModule) (n l : ℕ) → IsTrue (is_wiring ws) → on.number < length ws → n < length ws → on.number ≢ n → Avoids on l → KeptIn ws on → KeptIn (map (exchange_on (get_or ws n unwired).link3 l) ws) on
+kept3 : (ws : List ModuleLinks) (on : WiredModule) (n l : ℕ) → IsTrue (is_wiring ws) → on.number < length ws → n < length ws → on.number ≢ n → Avoids on l
+    → KeptIn ws on → KeptIn (map (exchange_on (get_or ws n unwired).link3 l) ws) on
 kept3 ws on n l own a b ne avoids kept =
     let one = (get_or ws n unwired).link3 in
     let at = at_exchanged one l ws on.number a in (
@@ -153,22 +167,26 @@ moved_length ws us was None m = ap length m.none
 moved_length ws us was (Some l) m = ap length m.some ∙ length-map ws (exchange_on was l)
 
 -- what another module is on stays
-moved_kept0 : (ws us : List ModuleLinks) (on : WiredModule) (n : ℕ) (link : Option ℕ) → IsTrue (is_wiring ws) → on.number < length ws → n < length ws → on.number ≢ n → IfSome link (Avoids on) → Moved ws us (get_or ws n unwired).link0 link → KeptIn ws on → KeptIn us on
+moved_kept0 : (ws us : List ModuleLinks) (on : WiredModule) (n : ℕ) (link : Option ℕ) → IsTrue (is_wiring ws) → on.number < length ws → n < length ws
+    → on.number ≢ n → IfSome link (Avoids on) → Moved ws us (get_or ws n unwired).link0 link → KeptIn ws on → KeptIn us on
 moved_kept0 ws us on n None own a b ne avoids m kept = subst (λ (x : List ModuleLinks). KeptIn x on) (sym m.none) kept
 moved_kept0 ws us on n (Some l) own a b ne avoids m kept = subst (λ (x : List ModuleLinks). KeptIn x on) (sym m.some) (kept0 ws on n l own a b ne avoids kept)
 
-moved_kept3 : (ws us : List ModuleLinks) (on : WiredModule) (n : ℕ) (link : Option ℕ) → IsTrue (is_wiring ws) → on.number < length ws → n < length ws → on.number ≢ n → IfSome link (Avoids on) → Moved ws us (get_or ws n unwired).link3 link → KeptIn ws on → KeptIn us on
+moved_kept3 : (ws us : List ModuleLinks) (on : WiredModule) (n : ℕ) (link : Option ℕ) → IsTrue (is_wiring ws) → on.number < length ws → n < length ws
+    → on.number ≢ n → IfSome link (Avoids on) → Moved ws us (get_or ws n unwired).link3 link → KeptIn ws on → KeptIn us on
 moved_kept3 ws us on n None own a b ne avoids m kept = subst (λ (x : List ModuleLinks). KeptIn x on) (sym m.none) kept
 moved_kept3 ws us on n (Some l) own a b ne avoids m kept = subst (λ (x : List ModuleLinks). KeptIn x on) (sym m.some) (kept3 ws on n l own a b ne avoids kept)
 
 -- the module's own links are where they were moved
-own0 : (ws us : List ModuleLinks) (n : ℕ) (link : Option ℕ) → n < length ws → Moved ws us (get_or ws n unwired).link0 link → IfSome link (λ l. (get_or us n unwired).link0 ≡ l)
+own0 : (ws us : List ModuleLinks) (n : ℕ) (link : Option ℕ) → n < length ws → Moved ws us (get_or ws n unwired).link0 link
+    → IfSome link (λ l. (get_or us n unwired).link0 ≡ l)
 own0 ws us n None a m = tt
 own0 ws us n (Some l) a m =
     let one = (get_or ws n unwired).link0 in
     ap (λ (x : List ModuleLinks). (get_or x n unwired).link0) m.some ∙ ap (λ (x : ModuleLinks). x.link0) (at_exchanged one l ws n a) ∙ goes one l
 
-own3 : (ws us : List ModuleLinks) (n : ℕ) (link : Option ℕ) → n < length ws → Moved ws us (get_or ws n unwired).link3 link → IfSome link (λ l. (get_or us n unwired).link3 ≡ l)
+own3 : (ws us : List ModuleLinks) (n : ℕ) (link : Option ℕ) → n < length ws → Moved ws us (get_or ws n unwired).link3 link
+    → IfSome link (λ l. (get_or us n unwired).link3 ≡ l)
 own3 ws us n None a m = tt
 own3 ws us n (Some l) a m =
     let one = (get_or ws n unwired).link3 in
@@ -177,7 +195,8 @@ own3 ws us n (Some l) a m =
 not_one : (a b l : ℕ) → not (is_one (Some a) (Some b)) ≡ true → a ≢ b
 not_one a b l e = λ same. let is : (a == b) ≡ true = grind (arith, nat_tests) in absurd cc
 
-own0_stays : (ws us : List ModuleLinks) (n : ℕ) (link0 link3 : Option ℕ) → IsTrue (is_wiring ws) → n < length ws → not (is_one link0 link3) ≡ true → Moved ws us (get_or ws n unwired).link3 link3 → IfSome link0 (λ l. (get_or ws n unwired).link0 ≡ l) → IfSome link0 (λ l. (get_or us n unwired).link0 ≡ l)
+own0_stays : (ws us : List ModuleLinks) (n : ℕ) (link0 link3 : Option ℕ) → IsTrue (is_wiring ws) → n < length ws → not (is_one link0 link3) ≡ true
+    → Moved ws us (get_or ws n unwired).link3 link3 → IfSome link0 (λ l. (get_or ws n unwired).link0 ≡ l) → IfSome link0 (λ l. (get_or us n unwired).link0 ≡ l)
 own0_stays ws us n None link3 own a other m is = tt
 own0_stays ws us n (Some l) None own a other m is = ap (λ (x : List ModuleLinks). (get_or x n unwired).link0) m.none ∙ is
 own0_stays ws us n (Some l) (Some k) own a other m is =
@@ -207,7 +226,8 @@ on_given3 a b l e =
     ∙ ap (λ t. is_on l (given a) || (t || false)) (same_is l)
     ∙ or_true (is_on l (given a))
 
-given_within : (ms : List WiredModule) (k : ℕ) (d : WiredModule) (l : ℕ) → k < length ms → is_on l (given_links (get_or ms k d)) ≡ true → is_on l (all_given ms) ≡ true
+given_within : (ms : List WiredModule) (k : ℕ) (d : WiredModule) (l : ℕ) → k < length ms → is_on l (given_links (get_or ms k d)) ≡ true → is_on l (all_given ms)
+    ≡ true
 given_within [] k d l lt e = absurd (omega arith)
 given_within (m ∷ ms) zero d l lt e = list_any-append (λ other. other == l) (given_links m) (all_given ms) ∙ ap (λ t. t || is_on l (all_given ms)) e
 given_within (m ∷ ms) (suc k) d l lt e =
@@ -217,7 +237,8 @@ given_within (m ∷ ms) (suc k) d l lt e =
 free_off : (xs : List ℕ) (k : ℕ) → is_free_in xs (Some k) ≡ true → is_on k xs ≡ true → ⊥
 free_off xs k free on = let off = and_right (nat_lt k PORTS) (not (is_on k xs)) free in absurd cc
 
-avoids : (xs : List ℕ) (on : WiredModule) (link : Option ℕ) → is_free_in xs link ≡ true → ((l : ℕ) → is_on l (given_links on) ≡ true → is_on l xs ≡ true) → IfSome link (Avoids on)
+avoids : (xs : List ℕ) (on : WiredModule) (link : Option ℕ) → is_free_in xs link ≡ true → ((l : ℕ) → is_on l (given_links on) ≡ true → is_on l xs ≡ true)
+    → IfSome link (Avoids on)
 avoids xs on None free within = tt
 avoids xs on (Some k) free within = (
   if_some on.link0 _ (λ l e same. free_off xs k free (subst (λ (x : ℕ). is_on x xs ≡ true) same (within l (on_given0 on.link0 on.link3 l e)))),
@@ -238,7 +259,8 @@ pub record Placed (ws : List ModuleLinks) (ms : List WiredModule) : Type 0 where
   pub all : length ws ≡ JOINED_MODULES
   pub kept : All (KeptIn ws) ms
 
-pub one_more : (ws us vs : List ModuleLinks) (ms : List WiredModule) (new : WiredModule) → IsTrue (is_wiring ws) → IsTrue (is_wiring us) → Placed ws ms → IsTrue (are_wired (ms ++ new ∷ []))
+pub one_more : (ws us vs : List ModuleLinks) (ms : List WiredModule) (new : WiredModule) → IsTrue (is_wiring ws) → IsTrue (is_wiring us) → Placed ws ms
+    → IsTrue (are_wired (ms ++ new ∷ []))
     → Moved ws us (get_or ws new.number unwired).link0 new.link0 → Moved us vs (get_or us new.number unwired).link3 new.link3 → Placed vs (ms ++ new ∷ [])
 one_more ws us vs ms new own_ws own_us placed own m0 m3 =
     let front = wired_front ms (new ∷ []) own in
@@ -246,8 +268,10 @@ one_more ws us vs ms new own_ws own_us placed own m0 m3 =
     let whole : are_wired (ms ++ new ∷ []) ≡ true = cc in
     let room : has_room ms new ≡ true = sym (wired_more ms new front) ∙ whole in
     let xs = all_given ms in
-    let numbers = and_left (nat_le (after_last 0 ms) new.number && nat_lt new.number JOINED_MODULES) (is_free_in xs new.link0 && (is_free_in xs new.link3 && not (is_one new.link0 new.link3))) room in
-    let links = and_right (nat_le (after_last 0 ms) new.number && nat_lt new.number JOINED_MODULES) (is_free_in xs new.link0 && (is_free_in xs new.link3 && not (is_one new.link0 new.link3))) room in
+    let numbers = and_left (nat_le (after_last 0 ms) new.number && nat_lt new.number JOINED_MODULES)
+    (is_free_in xs new.link0 && (is_free_in xs new.link3 && not (is_one new.link0 new.link3))) room in
+    let links = and_right (nat_le (after_last 0 ms) new.number && nat_lt new.number JOINED_MODULES)
+    (is_free_in xs new.link0 && (is_free_in xs new.link3 && not (is_one new.link0 new.link3))) room in
     let rises = and_left (nat_le (after_last 0 ms) new.number) (nat_lt new.number JOINED_MODULES) numbers in
     let le : after_last 0 ms ≤ new.number = grind (arith, nat_tests) in
     let known = (last_ports ms new own).0 in
@@ -270,16 +294,22 @@ one_more ws us vs ms new own_ws own_us placed own m0 m3 =
     (moved_kept0 ws us on n new.link0 own_ws in_on in_ws ne (avoids xs on new.link0 free0 within) m0 (placed.kept k d lt)) in
     record {
       all = moved_length us vs (get_or us n unwired).link3 new.link3 m3 ∙ all_us;
-      kept = All-push (KeptIn vs) ms new kept (own0_stays us vs n new.link0 new.link3 own_us in_us other m3 (own0 ws us n new.link0 in_ws m0), own3 us vs n new.link3 in_us m3);
+      kept = All-push (KeptIn vs) ms new kept (
+        own0_stays us vs n new.link0 new.link3 own_us in_us other m3 (own0 ws us n new.link0 in_ws m0),
+        own3 us vs n new.link3 in_us m3,
+      );
     }
 
 -- the same of the next module of a list
-pub next_placed : (ws us vs : List ModuleLinks) (all items : List WiredModule) (i was0 was3 : ℕ) (d : WiredModule) → items ≡ all → i < length items → IsTrue (are_wired all) → IsTrue (is_wiring ws) → IsTrue (is_wiring us) → Placed ws (take i all)
-    → was0 ≡ (get_or ws (get_or items i d).number unwired).link0 → Moved ws us was0 (get_or items i d).link0 → was3 ≡ (get_or us (get_or items i d).number unwired).link3 → Moved us vs was3 (get_or items i d).link3 → Placed vs (take (i + 1) all)
+pub next_placed : (ws us vs : List ModuleLinks) (all items : List WiredModule) (i was0 was3 : ℕ) (d : WiredModule) → items ≡ all → i < length items
+    → IsTrue (are_wired all) → IsTrue (is_wiring ws) → IsTrue (is_wiring us) → Placed ws (take i all)
+    → was0 ≡ (get_or ws (get_or items i d).number unwired).link0 → Moved ws us was0 (get_or items i d).link0 → was3
+    ≡ (get_or us (get_or items i d).number unwired).link3 → Moved us vs was3 (get_or items i d).link3 → Placed vs (take (i + 1) all)
 next_placed ws us vs all items i was0 was3 d same lt own own_ws own_us placed e0 m0 e3 m3 =
     let new = get_or items i d in
     let in_all : i < length all = rw (sym same) lt in
-    let more : take (i + 1) all ≡ take i all ++ new ∷ [] = take_more all i d in_all ∙ ap (λ (xs : List WiredModule). take i all ++ get_or xs i d ∷ []) (sym same) in
+    let more : take (i + 1) all ≡ take i all ++ new ∷ [] = take_more all i d in_all ∙ ap (λ (xs : List WiredModule). take i all ++ get_or xs i d ∷ [])
+    (sym same) in
     let whole = take-append-drop (i + 1) all in
     let front = wired_front (take (i + 1) all) (drop (i + 1) all) (subst (λ (x : List WiredModule). IsTrue (are_wired x)) (sym whole) own) in
     let more_own = subst (λ (x : List WiredModule). IsTrue (are_wired x)) more front in
@@ -287,14 +317,16 @@ next_placed ws us vs all items i was0 was3 d same lt own own_ws own_us placed e0
 
 -- ---- the first modules of a wiring
 
-pub next_first : (ws ms : List ModuleLinks) (n : ℕ) (on : ModuleLinks) → IsTrue (is_wiring ws) → n < length ws → ms ≡ take n ws → on ≡ get_or ws n unwired → (ms ++ on ∷ [] ≡ take (n + 1) ws) × IsTrue (is_wiring (ms ++ on ∷ []))
+pub next_first : (ws ms : List ModuleLinks) (n : ℕ) (on : ModuleLinks) → IsTrue (is_wiring ws) → n < length ws → ms ≡ take n ws → on ≡ get_or ws n unwired
+    → (ms ++ on ∷ [] ≡ take (n + 1) ws) × IsTrue (is_wiring (ms ++ on ∷ []))
 next_first ws ms n on own lt front at = let w = wiring_parts ws own in next_wired ws ms n on own w.few lt front (sym at)
 
 abbrev KeptAt : ModuleLinks → WiredModule → Type 0
 KeptAt at on = IfSome on.link0 (λ l. at.link0 ≡ l) × IfSome on.link3 (λ l. at.link3 ≡ l)
 
 -- those up to the last of these are where the board's wiring says
-pub first_placed : (ws vs : List ModuleLinks) (all front : List WiredModule) (w : ℕ) → Placed ws front → front ≡ all → IsTrue (are_wired all) → w ≡ after_last 0 all → vs ≡ take w ws → (length vs ≡ w) × All (KeptIn vs) all
+pub first_placed : (ws vs : List ModuleLinks) (all front : List WiredModule) (w : ℕ) → Placed ws front → front ≡ all → IsTrue (are_wired all) → w
+    ≡ after_last 0 all → vs ≡ take w ws → (length vs ≡ w) × All (KeptIn vs) all
 first_placed ws vs all front w placed same own width first =
     let few = width_few all own in
     let parts = wired_parts all own in
@@ -304,6 +336,7 @@ first_placed ws vs all front w placed same own width first =
       λ k d lt.
           let on = get_or all k d in
           let below = below_last 0 all k d parts.rising lt in
-          let at : get_or vs on.number unwired ≡ get_or ws on.number unwired = ap (λ (x : List ModuleLinks). get_or x on.number unwired) first ∙ get_or-take w ws on.number unwired (omega (arith, below, width)) in
+          let at : get_or vs on.number unwired ≡ get_or ws on.number unwired = ap (λ (x : List ModuleLinks). get_or x on.number unwired) first
+          ∙ get_or-take w ws on.number unwired (omega (arith, below, width)) in
           subst (λ (x : ModuleLinks). KeptAt x on) (sym at) (kept_all k d lt),
     )

@@ -1,5 +1,6 @@
 -- What a batch needs of a board, and what it is first refused for.
-use Rattle.std.specs.Prelude.{◌≡◌, ◌<◌, ◌⊎◌, ◌&&◌, ℕ, Bool, List, Option, None, Some, IsTrue, length, ⊤}
+use Rattle.std.specs.Prelude.{◌≡◌, ◌<◌, ◌⊎◌, ◌&&◌, ℕ, Bool, List, Option, None, Some, IsTrue}
+use Rattle.std.specs.Prelude.{length, ⊤}
 use Rattle.batch.specs.ShapeView.{widest}
 use Rattle.batch.specs.Overlap.{transfer_at}
 use Rattle.batch.specs.Text.{Denotes}

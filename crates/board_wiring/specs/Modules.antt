@@ -1,7 +1,8 @@
 -- What the text of a wiring says: on which links of the board's one switch link 0 and link 3 of
 -- each module are, where they are on one. That no two of them share a link is this project's
 -- choice.
-use Rattle.std.specs.Prelude.{◌==◌, ◌&&◌, ◌||◌, ◌+◌, ℕ, Bool, true, false, not, List, [], ◌∷◌, ◌++◌, Option, None, Some, is_some, nat_lt, nat_le}
+use Rattle.std.specs.Prelude.{◌==◌, ◌&&◌, ◌||◌, ◌+◌, ℕ, Bool, true, false, not, List, [], ◌∷◌, ◌++◌}
+use Rattle.std.specs.Prelude.{Option, None, Some, is_some, nat_lt, nat_le}
 use Rattle.std.specs.List.{flat_map, list_any, list_all}
 use Rattle.c004_commands.specs.declared.port.TheConstants.{PORTS}
 use Rattle.crossbar.specs.Boards.{are_distinct}

@@ -1,5 +1,6 @@
 -- The text of a board's wiring. The form is this project's choice.
-use Rattle.std.specs.Prelude.{◌≡◌, ◌≤◌, ℕ, List, [], ◌∷◌, ◌++◌, length, codes, IsTrue, Option, None, Some}
+use Rattle.std.specs.Prelude.{◌≡◌, ◌≤◌, ℕ, List, [], ◌∷◌, ◌++◌, length, codes, IsTrue, Option, None}
+use Rattle.std.specs.Prelude.{Some}
 use Rattle.std.specs.List.{flat_map}
 use Rattle.batch.specs.Text.{number, space, line_feed}
 use Rattle.board_wiring.specs.Modules.{are_wired}

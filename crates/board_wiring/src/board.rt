@@ -1,9 +1,11 @@
 //! A board, as the text of its wiring says it is.
 
-ghost use Rattle.std.specs.Prelude.{◌≡◌, ◌≤◌, ◌<◌, ◌==◌, ◌++◌, ◌∷◌, [], IsTrue, IfSome, IfNone, length, take};
+ghost use Rattle.std.specs.Prelude.{◌≡◌, ◌≤◌, ◌<◌, ◌==◌, ◌++◌, ◌∷◌, [], IsTrue, IfSome, IfNone};
+ghost use Rattle.std.specs.Prelude.{length, take};
 ghost use Rattle.std.specs.List.{list_any};
 ghost use Rattle.crossbar.specs.declared.switch.TheConstants.{JOINED_MODULES};
-ghost use Rattle.board_wiring.specs.Modules.{all_given, are_wired, given, has_module, has_link0, has_link3, is_at as is_at_link, is_free_in, is_one};
+ghost use Rattle.board_wiring.specs.Modules.{all_given, are_wired, given, has_module, has_link0};
+ghost use Rattle.board_wiring.specs.Modules.{has_link3, is_at as is_at_link, is_free_in, is_one};
 
 use crate::wired_module::WiredModule;
 use c004_commands::PORTS;

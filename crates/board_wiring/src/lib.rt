@@ -10,7 +10,7 @@
 //! first line at fault (`IsFirstBad` of `specs/Faults.antt`). A text has one of each at most, and
 //! never both (`laws::one_reading`). Where a rack may be such a board or not, as its caller says,
 //! [`read_board`] gives the board (`specs/Boards.antt`). [`read_missing`] gives the refusal of the
-//! first transfer of a batch that needs what the board hasn't (`specs/Lacks.antt`).
+//! first transfer of a batch that needs what the board hasn't (`specs/Missing.antt`).
 //!
 //! The switches below know wirings that leave nothing out. [`Board::wiring`] fills what is left out
 //! with links of the switch that are free (`Fills` of `specs/Boards.antt`).
@@ -20,8 +20,8 @@ mod board;
 mod boards;
 mod fault;
 mod filling;
-mod missing;
 pub mod laws;
+mod missing;
 mod reading;
 mod wired_module;
 

@@ -2,7 +2,8 @@
 
 ghost use Rattle.std.specs.Prelude.{◌≡◌, IfNone, IfSome, IfOk};
 ghost use Rattle.board_wiring.specs.Boards.{modules_of};
-ghost use Rattle.board_wiring.specs.Missing.{HasWays, IsFirstLack, IsMissingFor, MissesNothing, has_ends, has_way};
+ghost use Rattle.board_wiring.specs.Missing.{HasWays, IsFirstLack, IsMissingFor, MissesNothing};
+ghost use Rattle.board_wiring.specs.Missing.{has_ends, has_way};
 
 use crate::board::Board;
 use batch::{Batch, BatchFault, Shape, Transfer};

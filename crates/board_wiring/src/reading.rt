@@ -1,10 +1,12 @@
 //! The text of a wiring, read from the left. Each reader gives what it has read, and the rest.
 
-ghost use Rattle.std.specs.Prelude.{◌≡◌, ◌≢◌, ℕ, List, Option, ◌<◌, ◌≤◌, ◌++◌, IfSome, IfNone, IfOk, IfErr, codes};
+ghost use Rattle.std.specs.Prelude.{◌≡◌, ◌≢◌, ℕ, List, Option, ◌<◌, ◌≤◌, ◌++◌, IfSome, IfNone};
+ghost use Rattle.std.specs.Prelude.{IfOk, IfErr, codes};
 ghost use Rattle.batch.specs.Text.{IsDigit, IsNumber, number};
 ghost use Rattle.board_wiring.specs.Boards.{modules_of};
 ghost use Rattle.board_wiring.specs.Text.{Denotes, line, place};
-ghost use Rattle.board_wiring.specs.Faults.{AreModules, HasNoHead, IsFirstBad, IsHeaded, HasPorts, IsPort, StopsAt};
+ghost use Rattle.board_wiring.specs.Faults.{AreModules, HasNoHead, IsFirstBad, IsHeaded, HasPorts};
+ghost use Rattle.board_wiring.specs.Faults.{IsPort, StopsAt};
 ghost use Rattle.board_wiring.specs.declared.wired_module.WiredModule.{WiredModule};
 ghost use Rattle.c004_commands.specs.declared.port.TheConstants.{PORTS};
 ghost use Rattle.crossbar.specs.declared.switch.TheConstants.{JOINED_MODULES};

@@ -33,7 +33,8 @@ text_form c x = refl
 feed_form : (c : PlanlessCall) (x : List ℕ) → call_text c ++ x ≡ call_line c ++ line_feed ∷ (lines_after c ++ x)
 feed_form c x = text_form c x ∙ append_assoc (call_line c) (line_feed ∷ []) (lines_after c ++ x)
 
-pub its_line : (c : PlanlessCall) (text rest : List ℕ) (end : ℕ) → position (λ b. b == line_feed) text ≡ Some end → text ≡ call_text c ++ rest → take end text ≡ call_line c
+pub its_line : (c : PlanlessCall) (text rest : List ℕ) (end : ℕ) → position (λ b. b == line_feed) text ≡ Some end → text ≡ call_text c ++ rest → take end text
+    ≡ call_line c
 its_line c text rest end at is =
     let here = byte_at line_feed text end at in
     (first_at line_feed (take end text) (call_line c) _ _ here.1 (without_feed (call_plain c)) (sym here.2 ∙ is ∙ feed_form c rest)).0
@@ -51,7 +52,8 @@ at_index i e = ap (λ (l : List ℕ). get_or l i 0) e
 
 -- ---- the call of a line
 
-pub called : (r : Option PlanlessCall) (line : List ℕ) (by : SessionCommand) → Means line (Some by) → IfSome r (λ call. command_for call ≡ Some by) → IfSome r (IsCallOf line)
+pub called : (r : Option PlanlessCall) (line : List ℕ) (by : SessionCommand) → Means line (Some by) → IfSome r (λ call. command_for call ≡ Some by)
+    → IfSome r (IsCallOf line)
 called None line by means is = tt
 called (Some (Submit batch)) line by means is = absurd cc
 called (Some (Fetch id)) line by means is = absurd cc
@@ -59,7 +61,8 @@ called (Some (Settle id)) line by means is = absurd cc
 called (Some call) line by means is = subst (Means line) (sym is) means
 
 -- none, where no word and no command makes one
-pub uncalled : (line : List ℕ) (by : Option SessionCommand) → Means line by → ((n : ℕ) → IsNumber n → line ≢ codes "fetch " ++ decimal n) → ((n : ℕ) → IsNumber n → line ≢ codes "settle " ++ decimal n)
+pub uncalled : (line : List ℕ) (by : Option SessionCommand) → Means line by → ((n : ℕ) → IsNumber n → line ≢ codes "fetch " ++ decimal n)
+    → ((n : ℕ) → IsNumber n → line ≢ codes "settle " ++ decimal n)
     → ((call : PlanlessCall) (one : SessionCommand) → command_for call ≡ Some one → by ≢ Some one) → (call : PlanlessCall) → IsCallOf line call → ⊥
 uncalled line by means fetches settles other (Submit batch) is = is
 uncalled line by means fetches settles other (Fetch id) is = fetches id is.0 is.1
@@ -71,7 +74,8 @@ still_none None P Q f p = f p
 still_none (Some x) P Q f p = tt
 
 -- what was read of the first line is the call's text
-pub call_there : (c : PlanlessCall) (text : List ℕ) (end : ℕ) → position (λ b. b == line_feed) text ≡ Some end → IsCallOf (take end text) c → CanSay c × (text ≡ call_text c ++ drop (end + 1) text)
+pub call_there : (c : PlanlessCall) (text : List ℕ) (end : ℕ) → position (λ b. b == line_feed) text ≡ Some end → IsCallOf (take end text) c → CanSay c
+    × (text ≡ call_text c ++ drop (end + 1) text)
 call_there (Submit batch) text end at is = absurd is
 call_there c text end at is = (is.0, line_there text (call_line c) end at is.1)
 
@@ -84,7 +88,8 @@ no_call text end at batches none (Submit batch) rest can is =
 no_call text end at batches none c rest can is = none c (can, its_line c text rest end at is)
 
 -- where the line of a batch stands there, and not the batch
-pub no_batch : (text : List ℕ) (end count : ℕ) → position (λ b. b == line_feed) text ≡ Some end → IsNumber count → take end text ≡ codes "batch " ++ decimal count → BeginsWithNoBatch text count → BeginsWithNoCall text
+pub no_batch : (text : List ℕ) (end count : ℕ) → position (λ b. b == line_feed) text ≡ Some end → IsNumber count → take end text ≡ codes "batch "
+    ++ decimal count → BeginsWithNoBatch text count → BeginsWithNoCall text
 no_batch text end count at fits is none (Submit batch) rest can e =
     let few = can.few in
     none batch rest can (same_number (codes "batch ") (length batch) count (omega arith) fits (sym (its_line (Submit batch) text rest end at e) ∙ is)) e
@@ -92,8 +97,10 @@ no_batch text end count at fits is none c rest can e = omega (arith, at_index 0 
 
 -- ---- entries
 
-pub no_entry : (text after : List ℕ) (n : ℕ) → IsNumber n × (text ≡ number n space ++ after) → BeginsWithNoCall after → (limit : ℕ) → BeginsWithNoEntry limit text
-no_entry text after n read none limit session call rest fits below can e = none call rest can (after_number text n session space after (call_text call ++ rest) ends_space fits read e).1
+pub no_entry : (text after : List ℕ) (n : ℕ) → IsNumber n × (text ≡ number n space ++ after) → BeginsWithNoCall after → (limit : ℕ)
+    → BeginsWithNoEntry limit text
+no_entry text after n read none limit session call rest fits below can e =
+    none call rest can (after_number text n session space after (call_text call ++ rest) ends_space fits read e).1
 
 -- where the number is too great
 pub no_such_session : (text after : List ℕ) (n limit : ℕ) → IsNumber n × (text ≡ number n space ++ after) → limit ≤ n → BeginsWithNoEntry limit text

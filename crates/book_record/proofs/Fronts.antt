@@ -50,7 +50,8 @@ pub never : (n : ℕ) (b x text : List ℕ) → HasNoMark b → text ≡ summed 
 never n b x text none is unfinished = unfinished b (hex8 (sum_at n b)) x none (hex_fed (sum_at n b)) (is ∙ summed_form n b x)
 
 -- another sum stands there
-pub other_sum : (n : ℕ) (text body line rest : List ℕ) → HasNoMark body → HasNoFeed line → text ≡ body ++ sum_mark ∷ (line ++ line_feed ∷ rest) → line ≢ hex8 (sum_at n body) → IsDamaged n text
+pub other_sum : (n : ℕ) (text body line rest : List ℕ) → HasNoMark body → HasNoFeed line → text ≡ body ++ sum_mark ∷ (line ++ line_feed ∷ rest)
+    → line ≢ hex8 (sum_at n body) → IsDamaged n text
 other_sum n text body line rest none fed is differs = record {
   unsummed = λ b x s.
       let first = first_at sum_mark body b _ _ none s.none (sym is ∙ s.front ∙ summed_form n b x) in
@@ -106,7 +107,8 @@ none_whole n es front torn begun = record {
   begun = begun;
 }
 
-one_whole : (n : ℕ) (e : Entry) (es : List Entry) (front m : List ℕ) → CanTell e → front ≡ entry_text n e ++ m → IsCutOff (suc n) es m → IsCutOff n (e ∷ es) front
+one_whole : (n : ℕ) (e : Entry) (es : List Entry) (front m : List ℕ) → CanTell e → front ≡ entry_text n e ++ m → IsCutOff (suc n) es m
+    → IsCutOff n (e ∷ es) front
 one_whole n e es front m can is c =
     let count : suc n + length c.whole ≡ n + length (e ∷ c.whole) = omega arith in
     record {
@@ -131,7 +133,8 @@ each_front n (e ∷ es) front missing each same =
     let can = All-head CanTell e es each in
     elim (split (entry_text n e) (texts (suc n) es) front missing same) [
       | inl s ↦ one_whole n e es front s.0 can s.1 (each_front (suc n) es s.0 missing (All-tail CanTell e es each) s.2)
-      | inr s ↦ none_whole n (e ∷ es) front (torn_summed n (entry_lines e) front s.0 (told_unmarked e can) (told_lined e can) s.2 s.1) (subst (λ (k : ℕ). BeginsFirst k (e ∷ es) front) (at_first n) (s.0, s.1, s.2))
+      | inr s ↦ none_whole n (e ∷ es) front (torn_summed n (entry_lines e) front s.0 (told_unmarked e can) (told_lined e can) s.2 s.1)
+          (subst (λ (k : ℕ). BeginsFirst k (e ∷ es) front) (at_first n) (s.0, s.1, s.2))
     ]
 
 -- ---- the last lines
@@ -140,11 +143,13 @@ pub first_digit : (s : ℕ) (z : List ℕ) → IsNumber s → 101 ≡ get_or (nu
 first_digit s z fits is =
     let numeral = (decimal_is_IsNumeral s (omega (arith, fits))).0 in
     let digit : IsInRange 48 57 (get_or (decimal s) 0 0) = digit_at (decimal s) 0 (form (decimal s) s fits refl).digits numeral.0 in
-    let at : get_or (number s space ++ z) 0 0 ≡ get_or (decimal s) 0 0 = ap (λ (l : List ℕ). get_or l 0 0) (append_assoc (decimal s) (space ∷ []) z) ∙ get_or_append_left (decimal s) (space ∷ z) 0 0 numeral.0 in
+    let at : get_or (number s space ++ z) 0 0 ≡ get_or (decimal s) 0 0 = ap (λ (l : List ℕ). get_or l 0 0) (append_assoc (decimal s) (space ∷ []) z)
+    ∙ get_or_append_left (decimal s) (space ∷ z) 0 0 numeral.0 in
     omega (arith, is, at, digit)
 
 pub end_is_no_entry : EndIsNoEntry
 end_is_no_entry = (
   λ n front missing same some. torn_summed n (end_line n) front missing (end_unmarked n) (end_lined n) same some,
-  λ n e can is. first_digit e.session (call_text (told e.call) ++ reply_text (id_of (told e.call)) e.reply) can.session (ap (λ (l : List ℕ). get_or l 0 0) (sym is)),
+  λ n e can is. first_digit e.session (call_text (told e.call) ++ reply_text (id_of (told e.call)) e.reply) can.session
+      (ap (λ (l : List ℕ). get_or l 0 0) (sym is)),
 )

@@ -51,18 +51,23 @@ none_left count k text less none = one_less count k text less ∙ ap (after_line
 
 -- ---- a batch that was cut out by its lines
 
-there : (text rest : List ℕ) (ts : List Transfer) (count : ℕ) → length ts ≡ count → text ≡ batch_text ts ++ rest → after_lines (count + 1) (Some text) ≡ Some rest
-there text rest ts count long same = ap (λ (n : ℕ). after_lines (n + 1) (Some text)) (sym long) ∙ ap (λ (b : List ℕ). after_lines (length ts + 1) (Some b)) same ∙ after_batch ts rest
+there : (text rest : List ℕ) (ts : List Transfer) (count : ℕ) → length ts ≡ count → text ≡ batch_text ts ++ rest → after_lines (count + 1) (Some text)
+    ≡ Some rest
+there text rest ts count long same = ap (λ (n : ℕ). after_lines (n + 1) (Some text)) (sym long) ∙ ap (λ (b : List ℕ). after_lines (length ts + 1) (Some b)) same
+    ∙ after_batch ts rest
 
 -- where there are too few lines there is no batch of so many
-pub too_few : (text rest : List ℕ) (ts : List Transfer) (count : ℕ) → length ts ≡ count → after_lines (count + 1) (Some text) ≡ None → text ≢ batch_text ts ++ rest
+pub too_few : (text rest : List ℕ) (ts : List Transfer) (count : ℕ) → length ts ≡ count → after_lines (count + 1) (Some text) ≡ None → text ≢ batch_text ts
+    ++ rest
 too_few text rest ts count long none same = let some = there text rest ts count long same in absurd cc
 
--- what was cut out is the text of the batch that stands there; so where that has a fault no batch of
--- so many stands there
-pub faulty : (text rest : List ℕ) (ts : List Transfer) (count end : ℕ) (fault : BatchFault) → IsBatch ts → length ts ≡ count → after_lines (count + 1) (Some text) ≡ Some (drop end text) → IsFirstFault widest (take end text) fault → text ≢ batch_text ts ++ rest
+-- what was cut out is the text of the batch that stands there; so where that has a fault no batch
+-- of so many stands there
+pub faulty : (text rest : List ℕ) (ts : List Transfer) (count end : ℕ) (fault : BatchFault) → IsBatch ts → length ts ≡ count
+    → after_lines (count + 1) (Some text) ≡ Some (drop end text) → IsFirstFault widest (take end text) fault → text ≢ batch_text ts ++ rest
 faulty text rest ts count end fault is long some first same =
     let here = there text rest ts count long same in
     let after : drop end text ≡ rest = cc in
-    let spelled = append_cancel_right (take end text) (batch_text ts) rest (ap (λ (b : List ℕ). take end text ++ b) (sym after) ∙ take-append-drop end text ∙ same) in
+    let spelled = append_cancel_right (take end text) (batch_text ts) rest (ap (λ (b : List ℕ). take end text ++ b) (sym after) ∙ take-append-drop end text
+    ∙ same) in
     apart widest widest_shape (take end text) ts fault (record { spelled = spelled; few = is.few; within = is.within }) first

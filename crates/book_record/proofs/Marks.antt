@@ -45,7 +45,8 @@ call_plain (recorded_call.Run id) = words_and_number (codes "run ") id refl
 call_plain (recorded_call.Show id) = words_and_number (codes "show ") id refl
 call_plain (recorded_call.Discard id) = words_and_number (codes "drop ") id refl
 call_plain (recorded_call.Peek «module» address) = both (both (words (codes "peek ") refl) (spaced «module»)) (hex8_plain address)
-call_plain (recorded_call.Poke «module» address word) = both (words (codes "poke ") refl) (both (spaced «module») (both (hex8_plain address) (both (words (space ∷ []) refl) (hex8_plain word))))
+call_plain (recorded_call.Poke «module» address word) =
+    both (words (codes "poke ") refl) (both (spaced «module») (both (hex8_plain address) (both (words (space ∷ []) refl) (hex8_plain word))))
 
 call_told : (c : PlanlessCall) → AreTold (call_text c)
 call_told (recorded_call.Submit batch) = together (line_told (heading (length batch))) (transfers_told batch)
@@ -81,4 +82,5 @@ summed_lined n b lined =
 -- a front of it
 pub front_lined : (n : ℕ) (b front missing : List ℕ) → All IsLineByte b → summed n b ≡ front ++ missing → All IsLineByte front
 front_lined n b front missing lined is =
-    subst (All IsLineByte) (ap (take (length front)) is ∙ take-append_seam front missing) (All-take IsLineByte (length front) (summed n b) (summed_lined n b lined))
+    subst (All IsLineByte) (ap (take (length front)) is ∙ take-append_seam front missing)
+    (All-take IsLineByte (length front) (summed n b) (summed_lined n b lined))

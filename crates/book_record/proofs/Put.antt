@@ -33,7 +33,9 @@ sound_after m k e is step = record {
 all_put : (m : Machine) (es : List Entry) (n : Machine) → IsSound m → IsReplay m es n → All Put es
 all_put m [] n is led = All-nil Put
 all_put m (e ∷ es) n is led =
-    All-cons Put e es (has_room e.call e.reply (answered m e.session e.call e.reply led.0 is led.1).fits) (all_put led.0 es n (sound_after m led.0 e is led.1) led.2)
+    All-cons Put e es (has_room e.call e.reply (answered m e.session e.call e.reply led.0 is led.1).fits)
+    (all_put led.0 es n (sound_after m led.0 e is led.1) led.2)
 
-pub can_be_put : (opening : Store) (es : List Entry) (n : Machine) → IsShape opening.shape → IsReplay (opened opening) es n → All (λ (e : Entry). CanBePut e.reply) es
+pub can_be_put : (opening : Store) (es : List Entry) (n : Machine) → IsShape opening.shape → IsReplay (opened opening) es n
+    → All (λ (e : Entry). CanBePut e.reply) es
 can_be_put opening es n shape led = all_put (opened opening) es n (sound opening [] (opened opening) shape refl) led

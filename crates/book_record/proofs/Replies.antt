@@ -50,9 +50,11 @@ then w n is plain = both (both plain (words w is)) (decimal_plain n)
 
 ran_line : (id r settings moved : ℕ) → IsPlain (ran_words id r settings moved)
 ran_line id r settings moved =
-    then (codes " bits ") (bits_of moved) refl (then (codes " words ") moved refl (then (codes " settings ") settings refl (then (codes " run ") r refl (numbered (codes "ran ") id refl))))
+    then (codes " bits ") (bits_of moved) refl
+    (then (codes " words ") moved refl (then (codes " settings ") settings refl (then (codes " run ") r refl (numbered (codes "ran ") id refl))))
 
-shown_line : (id transfers : ℕ) (s : BatchState) → IsPlain (codes "batch " ++ decimal id ++ codes " transfers " ++ decimal transfers ++ codes " " ++ state_words s)
+shown_line : (id transfers : ℕ) (s : BatchState) → IsPlain (codes "batch " ++ decimal id ++ codes " transfers " ++ decimal transfers ++ codes " "
+    ++ state_words s)
 shown_line id transfers s = both (both (then (codes " transfers ") transfers refl (numbered (codes "batch ") id refl)) (words (codes " ") refl)) (of_state s)
 
 pub one_line : (id : ℕ) (r : Reply) → CanBeReplied r → IsOneLine (reply_text id r)

@@ -1,5 +1,6 @@
 -- Entries that wait, and such as are written.
-use Rattle.std.proofs.Common.{◌≡◌, ℕ, suc, ◌≤◌, ◌+◌, ◌%◌, ◌<◌, Bool, true, false, List, [], ◌∷◌, ◌++◌, length, take, drop, get_or, length-take-le, Option, refl, sym, ap, ◌∙◌, subst, append_assoc, append-nil, true≢false, arith}
+use Rattle.std.proofs.Common.{◌≡◌, ℕ, suc, ◌≤◌, ◌+◌, ◌%◌, ◌<◌, Bool, true, false, List, [], ◌∷◌, ◌++◌, length, take, drop, get_or, length-take-le, Option, refl, sym, ap, ◌∙◌, subst, append_assoc}
+use Rattle.std.proofs.Common.{append-nil, true≢false, arith}
 use Rattle.std.specs.Io.KnownBytes.{Appends}
 use Rattle.std.proofs.lemmas.List.{take-append-drop, drop-append-le, length-take, length-append, take_all, take_more}
 use Rattle.std.proofs.Math.Seq.{take-append_seam, drop-append_seam}
@@ -22,17 +23,20 @@ pub texts_append : (n : ℕ) (a b : List Entry) → texts n (a ++ b) ≡ texts n
 texts_append n [] b = let e : n ≡ n + 0 = omega arith in ap (λ (k : ℕ). texts k b) e
 texts_append n (e ∷ a) b =
     let count : suc n + length a ≡ n + length (e ∷ a) = omega arith in
-    ap (λ (l : List ℕ). entry_text n e ++ l) (texts_append (suc n) a b ∙ ap (λ (k : ℕ). texts (suc n) a ++ texts k b) count) ∙ sym (append_assoc (entry_text n e) (texts (suc n) a) (texts (n + length (e ∷ a)) b))
+    ap (λ (l : List ℕ). entry_text n e ++ l) (texts_append (suc n) a b ∙ ap (λ (k : ℕ). texts (suc n) a ++ texts k b) count)
+    ∙ sym (append_assoc (entry_text n e) (texts (suc n) a) (texts (n + length (e ∷ a)) b))
 
 pub texts_both : (a b : List Entry) → texts 0 (a ++ b) ≡ texts 0 a ++ texts (length a) b
 texts_both a b = let e : 0 + length a ≡ length a = omega arith in texts_append 0 a b ∙ ap (λ (k : ℕ). texts 0 a ++ texts k b) e
 
 -- one more
-pub texts_more : (all : List Entry) (k : ℕ) (e : Entry) → e ≡ get_or all k e → k < length all → texts 0 (take k all) ++ entry_text k e ≡ texts 0 (take (k + 1) all)
+pub texts_more : (all : List Entry) (k : ℕ) (e : Entry) → e ≡ get_or all k e → k < length all → texts 0 (take k all) ++ entry_text k e
+    ≡ texts 0 (take (k + 1) all)
 texts_more all k e is less =
     let count : 0 + length (take k all) ≡ k = omega (arith, length-take-le k all (omega (arith, less))) in
     let last : texts (0 + length (take k all)) (e ∷ []) ≡ entry_text k e = ap (λ (i : ℕ). texts i (e ∷ [])) count ∙ append-nil (entry_text k e) in
-    ap (λ (l : List ℕ). texts 0 (take k all) ++ l) (sym last) ∙ sym (texts_append 0 (take k all) (e ∷ [])) ∙ ap (λ (x : Entry). texts 0 (take k all ++ x ∷ [])) is ∙ ap (texts 0) (sym (take_more all k e less))
+    ap (λ (l : List ℕ). texts 0 (take k all) ++ l) (sym last) ∙ sym (texts_append 0 (take k all) (e ∷ [])) ∙ ap (λ (x : Entry). texts 0 (take k all ++ x ∷ []))
+    is ∙ ap (texts 0) (sym (take_more all k e less))
 
 -- after those that are the first of others
 count_of : (xs ys zs : List Entry) → zs ≡ xs ++ ys → length xs + length ys ≡ length zs
@@ -71,7 +75,8 @@ pub none_wait : (queued all : List Entry) (buffer : List ℕ) → queued ≡ all
 none_wait queued all buffer is empty = (starts_same queued all is, empty ∙ sym (behind_none queued all is))
 
 -- one entry more
-pub one_more : (queued all : List Entry) (e : Entry) (more : List Entry) (buffer longer : List ℕ) → IsText queued all buffer → more ≡ all ++ e ∷ [] → longer ≡ buffer ++ entry_text (length all) e → IsText queued more longer
+pub one_more : (queued all : List Entry) (e : Entry) (more : List Entry) (buffer longer : List ℕ) → IsText queued all buffer → more ≡ all ++ e ∷ [] → longer
+    ≡ buffer ++ entry_text (length all) e → IsText queued more longer
 one_more queued all e more buffer longer b grown put = (
   subst (IsPrefix queued) (sym grown) (starts_then queued all (all ++ e ∷ []) b.0 (starts all (all ++ e ∷ []) (e ∷ []) refl)),
   put ∙ ap (λ (l : List ℕ). l ++ entry_text (length all) e) b.1 ∙ sym (behind_more queued all e b.0) ∙ ap (text_behind queued) (sym grown),
@@ -91,7 +96,8 @@ length_front : (count : ℕ) (bytes : List ℕ) → count ≤ length bytes → l
 length_front count bytes few = let e = length-take count bytes in omega (arith, e, few)
 
 -- whatever stands after their text
-pub still_held : (queued all : List Entry) (count : ℕ) (bytes begun more now : List ℕ) → IsHeld queued all count bytes → begun ≡ take count bytes → now ≡ begun ++ more
+pub still_held : (queued all : List Entry) (count : ℕ) (bytes begun more now : List ℕ) → IsHeld queued all count bytes → begun ≡ take count bytes → now ≡ begun
+    ++ more
     → IsHeld queued all count now × (drop count now ≡ more)
 still_held queued all count bytes begun more now b is grown =
     let long : length begun ≡ count = ap length is ∙ length_front count bytes b.1 in
@@ -102,16 +108,19 @@ still_held queued all count bytes begun more now b is grown =
 
 -- one entry more, whose text stood after theirs but for its last line
 pub more_held : (queued all : List Entry) (e : Entry) (more : List Entry) (count now : ℕ) (bytes line longer : List ℕ)
-    → IsHeld queued all count bytes → more ≡ all ++ e ∷ [] → longer ≡ bytes ++ line → drop count bytes ++ line ≡ entry_text (length all) e → now ≡ length longer → IsHeld queued more now longer
+    → IsHeld queued all count bytes → more ≡ all ++ e ∷ [] → longer ≡ bytes ++ line → drop count bytes ++ line ≡ entry_text (length all) e → now ≡ length longer
+    → IsHeld queued more now longer
 more_held queued all e more count now bytes line longer b grown put is long =
     let parted : longer ≡ take count bytes ++ entry_text (length all) e =
-    put ∙ ap (λ (l : List ℕ). l ++ line) (sym (take-append-drop count bytes)) ∙ append_assoc (take count bytes) (drop count bytes) line ∙ ap (λ (l : List ℕ). take count bytes ++ l) is in
+    put ∙ ap (λ (l : List ℕ). l ++ line) (sym (take-append-drop count bytes)) ∙ append_assoc (take count bytes) (drop count bytes) line
+    ∙ ap (λ (l : List ℕ). take count bytes ++ l) is in
     let whole : take now longer ≡ longer = take_all now longer (omega (arith, long)) in
     (one_more queued all e more (take count bytes) (take now longer) b.0 grown (whole ∙ parted), omega (arith, long))
 
 -- the text of those after what was taken over, and of those after what was handed on, are together
 -- that of all after what was taken over
-pub after_both : (taken queued all : List Entry) → IsPrefix taken queued → IsPrefix queued all → text_behind taken queued ++ text_behind queued all ≡ text_behind taken all
+pub after_both : (taken queued all : List Entry) → IsPrefix taken queued → IsPrefix queued all → text_behind taken queued ++ text_behind queued all
+    ≡ text_behind taken all
 after_both taken queued all first next =
     let f = front taken queued first in
     let m = front queued all next in
@@ -123,7 +132,8 @@ after_both taken queued all first next =
 
 -- ---- what was written
 
-pub begins : (held now : Option (List ℕ)) (earlier durable tried past : List Entry) → now ≡ held → past ≡ earlier → durable ≡ past → tried ≡ past → StandsAtWriter held now earlier durable tried true
+pub begins : (held now : Option (List ℕ)) (earlier durable tried past : List Entry) → now ≡ held → past ≡ earlier → durable ≡ past → tried ≡ past
+    → StandsAtWriter held now earlier durable tried true
 begins held now earlier durable tried past same are all given = (
   record {
     added = [];
@@ -140,13 +150,16 @@ begins held now earlier durable tried past same are all given = (
 )
 
 -- what the writer has got where nothing failed
-got : (before mid after : Option (List ℕ)) (text front more : List ℕ) → Appends before mid (text ++ front) → front ≡ [] → Appends mid after more → Appends before after (text ++ more)
+got : (before mid after : Option (List ℕ)) (text front more : List ℕ) → Appends before mid (text ++ front) → front ≡ [] → Appends mid after more
+    → Appends before after (text ++ more)
 got before mid after text front more had none went =
-    subst (Appends before after) (ap (λ (l : List ℕ). (text ++ l) ++ more) none ∙ ap (λ (l : List ℕ). l ++ more) (append-nil text)) (appends_then before mid after (text ++ front) more had went)
+    subst (Appends before after) (ap (λ (l : List ℕ). (text ++ l) ++ more) none ∙ ap (λ (l : List ℕ). l ++ more) (append-nil text))
+    (appends_then before mid after (text ++ front) more had went)
 
 -- all that it was given was written
 pub appended : (before mid after : Option (List ℕ)) (earlier durable tried all now_stands now_tried : List Entry) (whole is_whole : Bool) (text : List ℕ)
-    → StandsAtWriter before mid earlier durable tried whole → whole ≡ true → IsPrefix tried all → text ≡ text_behind tried all → Appends mid after text → now_stands ≡ all → now_tried ≡ all
+    → StandsAtWriter before mid earlier durable tried whole → whole ≡ true → IsPrefix tried all → text ≡ text_behind tried all → Appends mid after text
+    → now_stands ≡ all → now_tried ≡ all
     → StandsAtWriter before after earlier now_stands now_tried is_whole
 appended before mid after earlier durable tried all now_stands now_tried whole is_whole text s was first text_is went same same_tried =
     let w = s.0 in
@@ -155,7 +168,8 @@ appended before mid after earlier durable tried all now_stands now_tried whole i
     let had = texts (length earlier) w.added in
     let count : length tried ≡ length earlier + length w.added = ap length (sym (s.1 was)) ∙ sym (count_of earlier w.added durable w.stand) in
     let all_text : had ++ text ≡ texts (length earlier) (w.added ++ rest) ++ [] =
-    ap (λ (l : List ℕ). had ++ l) text_is ∙ ap (λ (k : ℕ). had ++ texts k rest) count ∙ sym (texts_append (length earlier) w.added rest) ∙ sym (append-nil (texts (length earlier) (w.added ++ rest))) in (
+    ap (λ (l : List ℕ). had ++ l) text_is ∙ ap (λ (k : ℕ). had ++ texts k rest) count ∙ sym (texts_append (length earlier) w.added rest)
+    ∙ sym (append-nil (texts (length earlier) (w.added ++ rest))) in (
       record {
         added = w.added ++ rest;
         stand = same ∙ parted ∙ ap (λ (l : List Entry). l ++ rest) w.stand ∙ append_assoc earlier w.added rest;
@@ -172,7 +186,8 @@ appended before mid after earlier durable tried all now_stands now_tried whole i
 
 -- so much as a front of it was
 pub torn : (before mid after : Option (List ℕ)) (earlier durable tried all now_tried : List Entry) (whole : Bool) (text : List ℕ)
-    → StandsAtWriter before mid earlier durable tried whole → whole ≡ true → IsPrefix tried all → text ≡ text_behind tried all → IsCutShort mid after text → now_tried ≡ all
+    → StandsAtWriter before mid earlier durable tried whole → whole ≡ true → IsPrefix tried all → text ≡ text_behind tried all → IsCutShort mid after text
+    → now_tried ≡ all
     → StandsAtWriter before after earlier durable now_tried false
 torn before mid after earlier durable tried all now_tried whole text s was first text_is cut same_tried =
     let w = s.0 in
@@ -192,7 +207,8 @@ torn before mid after earlier durable tried all now_tried whole text s was first
     )
 
 -- where more entries wait than it was given
-pub with_more : (before after : Option (List ℕ)) (earlier durable tried all : List Entry) (whole : Bool) → IsWritten before after earlier durable tried whole → IsPrefix tried all → IsWritten before after earlier durable all whole
+pub with_more : (before after : Option (List ℕ)) (earlier durable tried all : List Entry) (whole : Bool) → IsWritten before after earlier durable tried whole
+    → IsPrefix tried all → IsWritten before after earlier durable all whole
 with_more before after earlier durable tried all whole w first =
     let rest = drop (length tried) all in
     record {
@@ -203,7 +219,8 @@ with_more before after earlier durable tried all whole w first =
       front = w.front;
       missing = w.missing ++ texts (length tried) rest;
       cut =
-          texts_append (length durable) w.waiting rest ∙ ap (λ (k : ℕ). texts (length durable) w.waiting ++ texts k rest) (count_of durable w.waiting tried w.are)
+          texts_append (length durable) w.waiting rest ∙ ap (λ (k : ℕ). texts (length durable) w.waiting ++ texts k rest)
+          (count_of durable w.waiting tried w.are)
           ∙ ap (λ (l : List ℕ). l ++ texts (length tried) rest) w.cut ∙ append_assoc w.front w.missing (texts (length tried) rest);
       appended = w.appended;
       clean = w.clean;
@@ -212,7 +229,8 @@ with_more before after earlier durable tried all whole w first =
 -- the text that was drafted, and the line of the reply, are the text of the entry
 pub drafted_text : (text : List ℕ) (session : ℕ) (call : Call) (r : Reply) → text ≡ number session space ++ call_text (told call)
     → text ++ reply_text (id_of (told call)) r ≡ entry_lines (entry session call r)
-drafted_text text session call r is = ap (λ (l : List ℕ). l ++ reply_text (id_of (told call)) r) is ∙ append_assoc (number session space) (call_text (told call)) (reply_text (id_of (told call)) r)
+drafted_text text session call r is = ap (λ (l : List ℕ). l ++ reply_text (id_of (told call)) r) is ∙ append_assoc (number session space)
+    (call_text (told call)) (reply_text (id_of (told call)) r)
 
 -- the same, with the line of its sum after it
 pub summed_text : (n m : ℕ) (bytes reply : List ℕ) (count : ℕ) (session : ℕ) (call : Call) (r : Reply) → m ≡ numbered n → count ≤ length bytes
@@ -226,5 +244,6 @@ summed_text n m bytes reply count session call r number few is =
     ∙ ap (λ (l : List ℕ). told ++ sum_line (sum_at m l)) both ∙ ap (λ (s : ℕ). told ++ sum_line s) (sum_wraps n m told number)
 
 -- the number of the next one
-pub next_number : (n : ℕ) (past more : List Entry) (e : Entry) → n ≡ numbered (length past) → more ≡ past ++ e ∷ [] → (n + 1) % 18446744073709551616 ≡ numbered (length more)
+pub next_number : (n : ℕ) (past more : List Entry) (e : Entry) → n ≡ numbered (length past) → more ≡ past ++ e ∷ [] → (n + 1) % 18446744073709551616
+    ≡ numbered (length more)
 next_number n past more e is grown = omega (arith, is, ap length grown, length-append past (e ∷ []))

@@ -1,5 +1,6 @@
 -- How a record is read from the left.
-use Rattle.std.specs.Prelude.{◌≡◌, ◌≢◌, ℕ, zero, suc, ◌+◌, ◌<◌, ◌==◌, List, ◌++◌, drop, length, position, Option, Some, None}
+use Rattle.std.specs.Prelude.{◌≡◌, ◌≢◌, ℕ, zero, suc, ◌+◌, ◌<◌, ◌==◌, List, ◌++◌, drop, length}
+use Rattle.std.specs.Prelude.{position, Option, Some, None}
 use Rattle.batch.specs.Batches.{IsBatch}
 use Rattle.batch.specs.Text.{IsNumber, number, batch_text, space, line_feed}
 use Rattle.batch.specs.declared.transfer.Transfer.{Transfer}

@@ -1,11 +1,15 @@
 //! The head of a record.
 
-ghost use Rattle.std.specs.Prelude.{◌≡◌, ◌≢◌, ◌↔◌, ◌++◌, ◌∷◌, All, List, ℕ, codes, length, map, IfOk, IfSome, IfNone, IsTrue, OnOk};
+ghost use Rattle.std.specs.Prelude.{◌≡◌, ◌≢◌, ◌↔◌, ◌++◌, ◌∷◌, All, List, ℕ, codes, length, map};
+ghost use Rattle.std.specs.Prelude.{IfOk, IfSome, IfNone, IsTrue, OnOk};
 ghost use Rattle.std.specs.List.{flat_map};
 ghost use Rattle.batch.specs.ShapeView.{IsShape};
 ghost use Rattle.batch.specs.Text.{IsNumber, line_feed};
 ghost use Rattle.line_words.specs.HexWords.{IsWord};
-ghost use Rattle.book_record.specs.Heads.{AreClients, AreNames, BeginsWithNoClient, BeginsWithNoHead, BeginsWithNoNames, IsName, IsNoRackLine, client_line, rack_line, rack_words, head_of, session_limit};
+ghost use Rattle.book_record.specs.Heads.{AreClients, AreNames, BeginsWithNoClient};
+ghost use Rattle.book_record.specs.Heads.{BeginsWithNoHead, BeginsWithNoNames, IsName};
+ghost use Rattle.book_record.specs.Heads.{IsNoRackLine, client_line, rack_line, rack_words};
+ghost use Rattle.book_record.specs.Heads.{head_of, session_limit};
 
 use crate::sum::{after_sum, sum_at};
 use crate::writing::push_sum_of;

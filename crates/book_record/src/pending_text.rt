@@ -1,4 +1,4 @@
-//! The texts of entries that wait until they are written.
+//! The texts of pending entries.
 
 ghost use Rattle.std.specs.Prelude.{◌≡◌, ◌++◌, [], OnOk, OnErr, length};
 ghost use Rattle.batch_book.specs.History.{IsPrefix};
@@ -15,20 +15,20 @@ use std::marker::Model;
 use std::mem;
 use std::snapshot::Snapshot;
 
-/// Entries, of which those that weren't handed on yet are there as a text. It keeps no entry.
+/// Entries, of which those that weren't queued yet are there as a text. It keeps no entry.
 #[derive(Drop)]
 pub struct PendingText {
-    // The text of the entries that wait, and that of the one that is drafted, but for the line of
-    // the reply.
+    // The text of the pending entries, and that of the one that is drafted, but for the line of the
+    // reply.
     buffer: Vec<u8>,
-    // The number of its bytes that are of those that wait.
+    // The number of its bytes that are of pending ones.
     waits: usize,
     // The number of the entry that is drafted.
     number: u64,
     // Where lines are put together.
     asked: Line,
     reply: ReplyLine,
-    // All entries, and those that were handed on: contracts alone see them.
+    // All entries, and those that were queued: contracts alone see them.
     past: GhostHistory,
     queued: Snapshot<GhostHistory>,
 }
@@ -79,14 +79,14 @@ impl PendingText {
         self.number
     }
 
-    /// Those that were handed on, for contracts alone.
+    /// Those that were queued, for contracts alone.
     pub(crate) fn queued(&self) -> HistorySnapshot
         ensures { result.value.value ≡ self.now.queued }
     {
         Snapshot::of(&self.queued)
     }
 
-    /// The text of those that wait. Those that were handed on are the first of all.
+    /// The text of the pending ones. Those that were queued are the first of all.
     pub(crate) fn text(&self) -> &[u8]
         ensures text { result.now ≡ text_behind self.now.queued self.now.all }
         ensures first { IsPrefix self.now.queued self.now.all }

@@ -1,10 +1,12 @@
 //! The reader of a record, from the left: what it has read, and the rest where lines may follow.
 
-ghost use Rattle.std.specs.Prelude.{◌≡◌, ◌≢◌, ◌+◌, ◌<◌, ◌≤◌, ◌++◌, drop, length, IfOk, IfSome, IfNone, Some, None};
+ghost use Rattle.std.specs.Prelude.{◌≡◌, ◌≢◌, ◌+◌, ◌<◌, ◌≤◌, ◌++◌, drop, length, IfOk, IfSome};
+ghost use Rattle.std.specs.Prelude.{IfNone, Some, None};
 ghost use Rattle.batch.specs.Batches.{IsBatch};
 ghost use Rattle.batch.specs.Text.{IsNumber, number, batch_text, space};
 ghost use Rattle.batch_book.specs.Told.{PlanlessCall};
-ghost use Rattle.book_record.specs.Reading.{after_lines, BeginsWithNoBatch, BeginsWithNoCall, BeginsWithNoEntry, IsCallOf, command_for};
+ghost use Rattle.book_record.specs.Reading.{after_lines, BeginsWithNoBatch, BeginsWithNoCall};
+ghost use Rattle.book_record.specs.Reading.{BeginsWithNoEntry, IsCallOf, command_for};
 ghost use Rattle.book_record.specs.RecordText.{CanSay, call_text};
 
 use batch::{Batch, BatchFault, Shape, position_of};

@@ -1,10 +1,12 @@
 //! How the text of a record begins, by the lines of sums.
 
-ghost use Rattle.std.specs.Prelude.{◌≡◌, ◌≤◌, ◌+◌, ◌++◌, ◌∷◌, ◌↔◌, ℕ, All, IfSome, IfNone, IsTrue, length};
+ghost use Rattle.std.specs.Prelude.{◌≡◌, ◌≤◌, ◌+◌, ◌++◌, ◌∷◌, ◌↔◌, ℕ, All, IfSome, IfNone, IsTrue};
+ghost use Rattle.std.specs.Prelude.{length};
 ghost use Rattle.batch.specs.Text.{line_feed};
 ghost use Rattle.client_session.specs.Bytes.{HasNoFeed};
 ghost use Rattle.line_words.specs.declared.limits.TheConstants.{LINE_ROOM};
-ghost use Rattle.book_record.specs.Fronts.{StandsInFront, IsLineByte, IsTorn, IsUnfinished, end_line, last_lines};
+ghost use Rattle.book_record.specs.Fronts.{StandsInFront, IsLineByte, IsTorn, IsUnfinished};
+ghost use Rattle.book_record.specs.Fronts.{end_line, last_lines};
 ghost use Rattle.book_record.specs.Sums.{HasNoMark, sum_mark, numbered};
 ghost use Rattle.book_record.specs.declared.sum.TheConstants.{SUM_ROOM};
 

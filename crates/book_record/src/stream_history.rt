@@ -14,7 +14,7 @@ use std::io::Write;
 use std::snapshot::Snapshot;
 
 /// Entries that go to a writer as texts, many at a time. It keeps none of them, so there may be any
-/// number: of those that wait it has the text, in memory. It lends its writer, so that entries are
+/// number: of the pending ones it has the text, in memory. It lends its writer, so that entries are
 /// written while calls are made.
 ///
 /// Once a writing has failed, no later one writes anything: the writer holds what it held.
@@ -37,8 +37,8 @@ impl<W: Write + Drop, N: StreamName> Drop for StreamHistory<W, N> {
 
 impl<W: Write, N: StreamName> StreamHistory<W, N> {
     /// A history that goes on after these entries, whose number is given, at this writer: they, and
-    /// what the writer holds, are those that the stream's name has. If it gathers, who writes waits
-    /// for more entries first.
+    /// what the writer holds, are those that the stream's name has. If it groups writes, who writes
+    /// waits for more entries first.
     pub fn resume_after(
         alloc: Global,
         past: GhostHistory,
@@ -69,7 +69,7 @@ impl<W: Write, N: StreamName> StreamHistory<W, N> {
         ensures entries { result.1 ≡ numbered (length self.waiting.all) }
     {
         let StreamHistory { written, waiting } = self;
-        // Called only for its contract: those that were handed on are the first.
+        // Called only for its contract: those that were queued are the first.
         waiting.text();
         let entries = waiting.entries();
         (written.into_writer(), entries)

@@ -56,7 +56,11 @@ impl<W: Write, N: StreamName> Model for StreamRecorder<W, N> {
 impl<W: Write, N: StreamName> StreamRecorder<W, N> {
     /// The writer of a stream of these entries: they, and what the writer holds, are those that the
     /// stream's name has.
-    pub(crate) fn resume_after(past: &GhostHistory, writer: W, groups_writes: bool) -> StreamRecorder<W, N>
+    pub(crate) fn resume_after(
+        past: &GhostHistory,
+        writer: W,
+        groups_writes: bool,
+    ) -> StreamRecorder<W, N>
         requires held { W.contents writer ≡ N.held }
         requires earlier { past.now ≡ N.earlier }
         ensures holds { result.holds ≡ W.contents writer }

@@ -12,8 +12,8 @@ use std::alloc::Global;
 use std::io::Write;
 
 /// The book goes on after its entries, whose number is given: the next ones go to this writer. What
-/// the writer holds, and the entries, are those that the stream's name has. If it gathers, who
-/// writes lets others run first; that is for many sessions whose writer waits for a disk.
+/// the writer holds, and the entries, are those that the stream's name has. If it groups writes,
+/// who writes lets others run first; that is for many sessions whose writer waits for a disk.
 pub fn attach_stream<W: Write + Send, N: StreamName + Send>(
     alloc: Global,
     book: Book<NullHistory>,

@@ -4,8 +4,8 @@ ghost use Rattle.std.specs.Prelude.{◌≡◌, [], IfOk};
 ghost use Rattle.book_record.specs.Heads.{whole_record};
 
 use crate::head::head_text;
-use crate::record_prefix::last_lines;
 use crate::push_history;
+use crate::record_prefix::last_lines;
 use crate::sum::sum_of;
 use batch_book::Book;
 use std::alloc::{AllocError, Global};

@@ -1,11 +1,13 @@
 //! The writer of a record.
 
-ghost use Rattle.std.specs.Prelude.{◌≡◌, ◌≤◌, ◌+◌, ◌++◌, All, OnOk, OnErr, IsOk, drop, length, vec_len, vec_capacity};
+ghost use Rattle.std.specs.Prelude.{◌≡◌, ◌≤◌, ◌+◌, ◌++◌, All, OnOk, OnErr, IsOk, drop, length};
+ghost use Rattle.std.specs.Prelude.{vec_len, vec_capacity};
 ghost use Rattle.line_words.specs.declared.limits.TheConstants.{LINE_ROOM};
 ghost use Rattle.batch.specs.Text.{batch_text, number, space};
 ghost use Rattle.batch_book.specs.Told.{told};
 ghost use Rattle.client_session.specs.Replies.{with_feed};
-ghost use Rattle.book_record.specs.RecordText.{CanBePut, id_of, call_text, reply_text, entry_lines, entry_text, texts};
+ghost use Rattle.book_record.specs.RecordText.{CanBePut, id_of, call_text, reply_text, entry_lines};
+ghost use Rattle.book_record.specs.RecordText.{entry_text, texts};
 ghost use Rattle.book_record.specs.Sums.{sum_at, sum_line};
 ghost use Rattle.book_record.specs.declared.sum.TheConstants.{SUM_ROOM};
 

@@ -79,7 +79,8 @@ port_due first rest byte more r b =
     let same : length (row b.command) ≡ length (row r.command) = sym (width-row b.command b.behind) ∙ one ∙ sym two ∙ width-row r.command [] in
     let inside : length rest < length ports = omega (arith, ap length split, ap length r.row_is, length-append (first ∷ rest) (r.next ∷ r.more)) in
     let here : get_or (ports ++ b.behind) (length rest) 0 ≡ byte =
-    ap (λ t. get_or (t ++ b.behind) (suc (length rest)) 0) (sym split) ∙ ap (λ t. get_or t (suc (length rest)) 0) (b.row_begins ∙ append_assoc (first ∷ rest) (byte ∷ more) b.more)
+    ap (λ t. get_or (t ++ b.behind) (suc (length rest)) 0) (sym split) ∙ ap (λ t. get_or t (suc (length rest)) 0)
+    (b.row_begins ∙ append_assoc (first ∷ rest) (byte ∷ more) b.more)
     ∙ get_or-append_seam rest byte (more ++ b.more) 0 in
     let low = port_at ports b.behind (length rest) b.ports inside in
     omega arith
@@ -91,7 +92,8 @@ no_fault (BadPort _) [] byte more r b f = f.0 refl
 no_fault (BadPort _) (first ∷ rest) byte more r b f = let low = port_due first rest byte more r b in omega (arith, f.1)
 
 -- where a text goes on with a byte to a text of commands, the byte is no fault
-pub not_fault : (fault : CommandFault) (bytes more left rest : List ℕ) (byte : ℕ) (commands others : List Command) → Spells bytes commands rest → Spells (bytes ++ byte ∷ more) others left → IsFault rest byte fault → ⊥
+pub not_fault : (fault : CommandFault) (bytes more left rest : List ℕ) (byte : ℕ) (commands others : List Command) → Spells bytes commands rest
+    → Spells (bytes ++ byte ∷ more) others left → IsFault rest byte fault → ⊥
 not_fault fault bytes more left rest byte commands others s t f =
     let on = longer_text bytes (byte ∷ more) commands others rest left s t in
     let ports : AreCommands (commands ++ on.later) = subst AreCommands on.others_are t.ports in

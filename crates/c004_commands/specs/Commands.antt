@@ -4,7 +4,8 @@ use Rattle.std.specs.Prelude.{◌≡◌, ◌<◌, ℕ, List, [], ◌∷◌, ◌+
 use Rattle.std.specs.List.{flat_map, AllByRecursion}
 use Rattle.c004_commands.specs.declared.port.TheConstants.{PORTS}
 use Rattle.c004_commands.specs.declared.command.Command.{Command}
-use Rattle.c004_commands.specs.declared.command.Command.TheVariants.{Connect, Join, Enquire, Settle, Reset, Cut, CutPair}
+use Rattle.c004_commands.specs.declared.command.Command.TheVariants.{Connect, Join, Enquire, Settle}
+use Rattle.c004_commands.specs.declared.command.Command.TheVariants.{Reset, Cut, CutPair}
 
 -- the bytes of a command: which it is, and then the ports that it names
 abbrev pub row : Command → List ℕ

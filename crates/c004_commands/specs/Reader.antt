@@ -4,7 +4,10 @@ use Rattle.std.specs.Option.{option_to_list}
 use Rattle.c004_commands.specs.Commands.{text, ArePorts, AreCommands, Spells}
 use Rattle.c004_commands.specs.declared.command.Command.{Command}
 use Rattle.c004_commands.specs.declared.reader.PartialCommand.{PartialCommand}
-use Rattle.c004_commands.specs.declared.reader.PartialCommand.TheVariants.{Nothing, Connect, ConnectFrom, Join, JoinOf, Enquire, Cut, CutPair, CutPairOf}
+use Rattle.c004_commands.specs.declared.reader.PartialCommand.TheVariants.{Nothing, Connect}
+use Rattle.c004_commands.specs.declared.reader.PartialCommand.TheVariants.{ConnectFrom, Join}
+use Rattle.c004_commands.specs.declared.reader.PartialCommand.TheVariants.{JoinOf, Enquire, Cut}
+use Rattle.c004_commands.specs.declared.reader.PartialCommand.TheVariants.{CutPair, CutPairOf}
 
 -- the bytes that have come of a command
 abbrev pub begun_bytes : PartialCommand → List ℕ

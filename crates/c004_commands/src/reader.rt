@@ -1,6 +1,7 @@
 //! Commands that come byte by byte.
 
-ghost use Rattle.std.specs.Prelude.{◌≡◌, ◌≢◌, ◌<◌, ◌↔◌, ◌++◌, ◌∷◌, [], List, ℕ, IsTrue, IfOk, IfErr, OnErr, IsOk};
+ghost use Rattle.std.specs.Prelude.{◌≡◌, ◌≢◌, ◌<◌, ◌↔◌, ◌++◌, ◌∷◌, [], List, ℕ, IsTrue, IfOk};
+ghost use Rattle.std.specs.Prelude.{IfErr, OnErr, IsOk};
 ghost use Rattle.c004_commands.specs.Commands.{Spells, IsCommandFront};
 ghost use Rattle.c004_commands.specs.Faults.{IsFault, TellsFaults};
 ghost use Rattle.c004_commands.specs.Reader.{begun_bytes, HasBegunPorts, Becomes, GoesOn};
@@ -158,19 +159,31 @@ fn with_port(begun: PartialCommand, port: PortNo) -> (PartialCommand, Option<Com
         PartialCommand::Connect => (PartialCommand::ConnectFrom(port), None),
         PartialCommand::ConnectFrom(input) => {
             let output = port;
-            (PartialCommand::Nothing, Some(Command::Connect { input, output }))
+            (
+                PartialCommand::Nothing,
+                Some(Command::Connect { input, output }),
+            )
         }
         PartialCommand::Join => (PartialCommand::JoinOf(port), None),
         PartialCommand::JoinOf(link1) => {
             let link2 = port;
-            (PartialCommand::Nothing, Some(Command::Join { link1, link2 }))
+            (
+                PartialCommand::Nothing,
+                Some(Command::Join { link1, link2 }),
+            )
         }
-        PartialCommand::Enquire => (PartialCommand::Nothing, Some(Command::Enquire { output: port })),
+        PartialCommand::Enquire => (
+            PartialCommand::Nothing,
+            Some(Command::Enquire { output: port }),
+        ),
         PartialCommand::Cut => (PartialCommand::Nothing, Some(Command::Cut { output: port })),
         PartialCommand::CutPair => (PartialCommand::CutPairOf(port), None),
         PartialCommand::CutPairOf(link1) => {
             let link2 = port;
-            (PartialCommand::Nothing, Some(Command::CutPair { link1, link2 }))
+            (
+                PartialCommand::Nothing,
+                Some(Command::CutPair { link1, link2 }),
+            )
         }
     }
 }

@@ -58,7 +58,8 @@ pub stops_cut : {a b : Option ℕ} {m : ℕ} → StopsAsking a b m None → Stop
 stops_cut s = record { asks = s.asks; counted = s.counted; within = s.within }
 
 -- the read that finds the end was made
-pub asked_at_end : (r : Result (Option ℕ) InputFault) (a b : Option ℕ) (m n : ℕ) (h : PendingInput) → StopsAsking a b m None → IfOk r (λ found. (found ≡ None) × (h.pending ≡ [])) → IfErr r (λ e. (e ≡ Cut) × (0 < length h.pending))
+pub asked_at_end : (r : Result (Option ℕ) InputFault) (a b : Option ℕ) (m n : ℕ) (h : PendingInput) → StopsAsking a b m None
+    → IfOk r (λ found. (found ≡ None) × (h.pending ≡ [])) → IfErr r (λ e. (e ≡ Cut) × (0 < length h.pending))
     → MatchResult r (λ found. MatchOption found (StopsAsking a b m None) (λ _. GivesEachTime a b m n)) (λ e. StopsAsking a b m (Some (of_input e)))
 asked_at_end (Ok found) a b m n h s ok err = rw ok.0 s
 asked_at_end (Err e) a b m n h s ok err = rw err.0 (stops_cut s)
@@ -68,17 +69,23 @@ few_reads (Some fault.Turns) reads is = omega (arith, is)
 few_reads end reads is = is
 
 -- nor where lines couldn't be told
-within_untold : (e : ServeFault) (old new : SeatView) (w v : Option (List ℕ)) (lines : List ℕ) (reads : ℕ) → AreUntold e old new w v lines → reads ≤ MAX_READS → IsWithinLimit (Some e) reads
+within_untold : (e : ServeFault) (old new : SeatView) (w v : Option (List ℕ)) (lines : List ℕ) (reads : ℕ) → AreUntold e old new w v lines → reads ≤ MAX_READS
+    → IsWithinLimit (Some e) reads
 within_untold fault.Write old new w v lines reads is few = few
 within_untold fault.Record old new w v lines reads is few = few
 within_untold e old new w v lines reads is few = absurd is
 
-pub asks_no_more : {a b : Option ℕ} {n : ℕ} (e : ServeFault) (old new : SeatView) (w v : Option (List ℕ)) (lines : List ℕ) → AreUntold e old new w v lines → GivesEachTime a b 0 n → AsksWithinLimit a b (Some e)
-asks_no_more e old new w v lines is s = record { asks = s.asks; counted = s.counted; within = within_untold e old new w v lines s.asks is (omega (arith, s.all, s.few)) }
+pub asks_no_more : {a b : Option ℕ} {n : ℕ} (e : ServeFault) (old new : SeatView) (w v : Option (List ℕ)) (lines : List ℕ) → AreUntold e old new w v lines
+    → GivesEachTime a b 0 n → AsksWithinLimit a b (Some e)
+asks_no_more e old new w v lines is s =
+    record { asks = s.asks; counted = s.counted; within = within_untold e old new w v lines s.asks is (omega (arith, s.all, s.few)) }
 
-pub asks_still : {a b : Option ℕ} (end : Option ServeFault) (e : ServeFault) (old new : SeatView) (w v : Option (List ℕ)) (lines : List ℕ) → AreUntold e old new w v lines → AsksWithinLimit a b end → AsksWithinLimit a b (Some e)
-asks_still end e old new w v lines is s = record { asks = s.asks; counted = s.counted; within = within_untold e old new w v lines s.asks is (few_reads end s.asks s.within) }
+pub asks_still : {a b : Option ℕ} (end : Option ServeFault) (e : ServeFault) (old new : SeatView) (w v : Option (List ℕ)) (lines : List ℕ)
+    → AreUntold e old new w v lines → AsksWithinLimit a b end → AsksWithinLimit a b (Some e)
+asks_still end e old new w v lines is s =
+    record { asks = s.asks; counted = s.counted; within = within_untold e old new w v lines s.asks is (few_reads end s.asks s.within) }
 
-pub asks_or : {T U : Type 0} (r : Result T ServeFault) (ended : Result U ServeFault) {a b : Option ℕ} (old new : SeatView) (w v : Option (List ℕ)) (lines : List ℕ) → IfErr r (λ e. AreUntold e old new w v lines) → AsksWithinLimit a b (fault_in ended) → AsksWithinLimit a b (fault_in (result_and r ended))
+pub asks_or : {T U : Type 0} (r : Result T ServeFault) (ended : Result U ServeFault) {a b : Option ℕ} (old new : SeatView) (w v : Option (List ℕ))
+    (lines : List ℕ) → IfErr r (λ e. AreUntold e old new w v lines) → AsksWithinLimit a b (fault_in ended) → AsksWithinLimit a b (fault_in (result_and r ended))
 asks_or (Ok x) ended old new w v lines err s = s
 asks_or (Err e) ended old new w v lines err s = asks_still (fault_in ended) e old new w v lines err s

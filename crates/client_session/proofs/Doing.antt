@@ -27,13 +27,23 @@ use Rattle.client_session.specs.declared.fault.ServeFault.TheVariants.{Record}
 use Rattle.batch_book.specs.declared.reading.Reading.{Reading}
 use Rattle.client_session.specs.Replies.{reply_line, progress_line}
 use Rattle.client_session.specs.Seats.{SeatView, logged, GoesOnFrom, IsCalled, IsUncalled, IsProgressRead}
-use Rattle.client_session.specs.Turns.{Answer, plain_answer, tells, settles, TellsReply, Submits, Settles, Plans, ReadsProgress, IsFetching}
+use Rattle.client_session.specs.Turns.{CommandOutcome, plain_answer, tells, settles, TellsReply, Submits, Settles, Plans, ReadsProgress, IsFetching}
 use Rattle.client_session.specs.Steps.{CanBeTold, IsNoFetch, Did, Acts, Breaks, IsDoneOrFailed}
 use Rattle.link_graph.proofs.Sums.{each}
 use Rattle.client_session.proofs.Lists.{every_append}
 
 pub stays : (p : SeatView) → GoesOnFrom false p p
-stays p = record { exchange = refl; shape = refl; loses = refl; session = refl; parts = refl; log = starts_same p.log p.log refl; seen = omega arith; broken = refl }
+stays p = record {
+  exchange = refl;
+  shape = refl;
+  loses = refl;
+  session = refl;
+  parts = refl;
+  log = starts_same p.log p.log refl;
+  seen = omega arith;
+  broken =
+      refl;
+}
 
 pub goes_on : (breaks : Bool) (a b c : SeatView) → GoesOnFrom false a b → GoesOnFrom breaks b c → GoesOnFrom breaks a c
 goes_on breaks a b c p q = record {
@@ -59,10 +69,11 @@ can_be_told c r other is = tt
 did_nothing : (p : SeatView) (line : List ℕ) → Did p p (plain_answer [] line)
 did_nothing p line = record { goes_on = stays p; asked = sym (append-nil p.asked); low = tt; high = tt }
 
-pub says : (p : SeatView) (IsSo : Answer → Type 0) (words line : List ℕ) → IsSo (plain_answer [] words) → line ≡ words → Acts p p IsSo line
+pub says : (p : SeatView) (IsSo : CommandOutcome → Type 0) (words line : List ℕ) → IsSo (plain_answer [] words) → line ≡ words → Acts p p IsSo line
 says p IsSo words line h e = record { answer = plain_answer [] words; did = did_nothing p words; is_so = h; line_is = e }
 
-shown_if : (seen : ℕ) (b : Bool) (by : ℕ) (c : Call) (r : Reply) → b ≡ is_logged r → value_of r ≤ seen → AllByRecursion (λ v. v ≤ seen) (map (λ (e : Entry). value_of e.reply) (logged by c r))
+shown_if : (seen : ℕ) (b : Bool) (by : ℕ) (c : Call) (r : Reply) → b ≡ is_logged r → value_of r ≤ seen
+    → AllByRecursion (λ v. v ≤ seen) (map (λ (e : Entry). value_of e.reply) (logged by c r))
 shown_if seen true by c r is h = rw (sym is) (h, tt)
 shown_if seen false by c r is h = rw (sym is) tt
 
@@ -70,44 +81,61 @@ did_call : (old new : SeatView) (c : Call) (r : Reply) (line : List ℕ) → IsC
 did_call old new c r line h = record { goes_on = h.goes_on; asked = h.asked; low = tt; high = shown_if new.seen (is_logged r) old.session c r refl h.seen }
 
 -- a call was made, and its reply is the line
-acts_call : (old new : SeatView) (id : ℕ) (c : Call) (r : Reply) (line : List ℕ) (IsSo : Answer → Type 0) → IsCalled old c r new → IsSo (tells old.session id c r) → line ≡ reply_line id r → Acts old new IsSo line
+acts_call : (old new : SeatView) (id : ℕ) (c : Call) (r : Reply) (line : List ℕ) (IsSo : CommandOutcome → Type 0) → IsCalled old c r new
+    → IsSo (tells old.session id c r) → line ≡ reply_line id r → Acts old new IsSo line
 acts_call old new id c r line IsSo h so e = record { answer = tells old.session id c r; did = did_call old new c r _ h; is_so = so; line_is = e }
 
-pub called : (old new : SeatView) (id : ℕ) (c : Call) (r : Reply) (line : List ℕ) → IsCalled old c r new → line ≡ reply_line id r → Acts old new (TellsReply old.session id c) line
+pub called : (old new : SeatView) (id : ℕ) (c : Call) (r : Reply) (line : List ℕ) → IsCalled old c r new → line ≡ reply_line id r
+    → Acts old new (TellsReply old.session id c) line
 called old new id c r line h e = acts_call old new id c r line (TellsReply old.session id c) h (r, h.answers, refl) e
 
 -- a call wasn't made, and nothing was added before
-pub breaks : (old new : SeatView) (fault : ServeFault) (HasBegun : List Entry → Type 0) → fault ≡ Record → IsUncalled old new → HasBegun [] → Breaks fault old new HasBegun
-breaks old new fault HasBegun is un begun = record { fault_is = is; goes_on = un.goes_on; entries = []; asked = un.asked ∙ sym (append-nil old.asked); begun = begun }
+pub breaks : (old new : SeatView) (fault : ServeFault) (HasBegun : List Entry → Type 0) → fault ≡ Record → IsUncalled old new → HasBegun []
+    → Breaks fault old new HasBegun
+breaks old new fault HasBegun is un begun = record {
+  fault_is = is;
+  goes_on = un.goes_on;
+  entries = [];
+  asked = un.asked ∙ sym (append-nil old.asked);
+  begun =
+      begun;
+}
 
 -- what was done first, and then without a reading
-did_more : (old mid new : SeatView) (a b : List Entry) (x y line : List ℕ) → Did old mid (plain_answer a x) → Did mid new (plain_answer b y) → Did old new (plain_answer (a ++ b) line)
+did_more : (old mid new : SeatView) (a b : List Entry) (x y line : List ℕ) → Did old mid (plain_answer a x) → Did mid new (plain_answer b y)
+    → Did old new (plain_answer (a ++ b) line)
 did_more old mid new a b x y line p q = record {
   goes_on = goes_on false old mid new p.goes_on q.goes_on;
   asked = q.asked ∙ ap (λ l. l ++ b) p.asked ∙ append_assoc old.asked a b;
   low = tt;
-  high = rw (map-append (λ (e : Entry). value_of e.reply) a b) (every_append (λ v. v ≤ new.seen) _ _ (each (λ v. v ≤ mid.seen) (λ v. v ≤ new.seen) (λ v le. omega (arith, le, q.goes_on.seen)) _ p.high) q.high);
+  high = rw (map-append (λ (e : Entry). value_of e.reply) a b)
+      (every_append (λ v. v ≤ new.seen) _ _ (each (λ v. v ≤ mid.seen) (λ v. v ≤ new.seen) (λ v le. omega (arith, le, q.goes_on.seen)) _ p.high) q.high);
 }
 
 -- ---- planning
 
-plans : (old new : SeatView) (id : ℕ) (batch : List Transfer) (a : Answer) (line : List ℕ) → Did old new a → Settles old.session id batch a → line ≡ a.line → Acts old new (Plans old.session id) line
+plans : (old new : SeatView) (id : ℕ) (batch : List Transfer) (a : CommandOutcome) (line : List ℕ) → Did old new a → Settles old.session id batch a → line ≡ a.line
+    → Acts old new (Plans old.session id) line
 plans old new id batch a line did so e = record { answer = a; did = did; is_so = inr (batch, so); line_is = e }
 
 -- a batch was fetched, and its plan settled
-pub settled : (old mid new : SeatView) (id : ℕ) (batch : List Transfer) (plan : Plan) (line : List ℕ) → IsCalled old (call.Fetch id) (Fetched batch) mid → IsPlan plan → plan.batch ≡ batch → Acts mid new (TellsReply mid.session id (call.Settle id plan)) line → Acts old new (Plans old.session id) line
+pub settled : (old mid new : SeatView) (id : ℕ) (batch : List Transfer) (plan : Plan) (line : List ℕ) → IsCalled old (call.Fetch id) (Fetched batch) mid
+    → IsPlan plan → plan.batch ≡ batch → Acts mid new (TellsReply mid.session id (call.Settle id plan)) line → Acts old new (Plans old.session id) line
 settled old mid new id batch plan line h shortest of acts =
     let r = acts.is_so.0 in
     let same : acts.answer ≡ tells old.session id (call.Settle id plan) r = acts.is_so.2 ∙ ap (λ by. tells by id (call.Settle id plan) r) h.goes_on.session in
     let second : Did mid new (tells old.session id (call.Settle id plan) r) = subst (Did mid new) same acts.did in
     plans old new id batch (settles old.session id batch plan r) line
-    (did_more old mid new (entry old.session (call.Fetch id) (Fetched batch) ∷ []) _ [] (reply_line id r) (reply_line id r) (did_call old mid (call.Fetch id) (Fetched batch) [] h) second)
+    (did_more old mid new (entry old.session (call.Fetch id) (Fetched batch) ∷ []) _ [] (reply_line id r) (reply_line id r)
+    (did_call old mid (call.Fetch id) (Fetched batch) [] h) second)
     (inl (plan, r, shortest, of, acts.is_so.1, refl))
-    (acts.line_is ∙ ap (λ (x : Answer). x.line) same)
+    (acts.line_is ∙ ap (λ (x : CommandOutcome). x.line) same)
 
 -- and a call with its plan wasn't made, or it was settled
-pub settled_or : {T : Type 0} (old mid new : SeatView) (id : ℕ) (batch : List Transfer) (plan : Plan) (line : List ℕ) (r : Result T ServeFault) → IsCalled old (call.Fetch id) (Fetched batch) mid → IsPlan plan → plan.batch ≡ batch
-    → IsDoneOrFailed mid new (TellsReply mid.session id (call.Settle id plan)) (λ es. es ≡ []) line r → IsDoneOrFailed old new (Plans old.session id) (IsFetching old.session id) line r
+pub settled_or : {T : Type 0} (old mid new : SeatView) (id : ℕ) (batch : List Transfer) (plan : Plan) (line : List ℕ) (r : Result T ServeFault)
+    → IsCalled old (call.Fetch id) (Fetched batch) mid → IsPlan plan → plan.batch ≡ batch
+    → IsDoneOrFailed mid new (TellsReply mid.session id (call.Settle id plan)) (λ es. es ≡ []) line r → IsDoneOrFailed old new (Plans old.session id)
+    (IsFetching old.session id) line r
 settled_or old mid new id batch plan line (Ok x) h shortest of does = settled old mid new id batch plan line h shortest of does
 settled_or old mid new id batch plan line (Err e) h shortest of b = record {
   fault_is = b.fault_is;
@@ -118,9 +146,11 @@ settled_or old mid new id batch plan line (Err e) h shortest of b = record {
 }
 
 -- a batch was fetched, and there was no memory to plan it
-pub unplanned : (old mid : SeatView) (id : ℕ) (batch : List Transfer) (line : List ℕ) → IsCalled old (call.Fetch id) (Fetched batch) mid → line ≡ refusal_line refusal.NoMemory → Acts old mid (Plans old.session id) line
+pub unplanned : (old mid : SeatView) (id : ℕ) (batch : List Transfer) (line : List ℕ) → IsCalled old (call.Fetch id) (Fetched batch) mid → line
+    ≡ refusal_line refusal.NoMemory → Acts old mid (Plans old.session id) line
 unplanned old mid id batch line h e =
-    plans old mid id batch (plain_answer (entry old.session (call.Fetch id) (Fetched batch) ∷ []) (refusal_line refusal.NoMemory)) line (did_call old mid (call.Fetch id) (Fetched batch) _ h) (inr refl) e
+    plans old mid id batch (plain_answer (entry old.session (call.Fetch id) (Fetched batch) ∷ []) (refusal_line refusal.NoMemory)) line
+    (did_call old mid (call.Fetch id) (Fetched batch) _ h) (inr refl) e
 
 -- the reply to `Fetch`, where it is no batch, can be told, and refuses it
 pub told_unfetched : (id : ℕ) (r : Reply) → IsReplyTo (call.Fetch id) r → ((batch : List Transfer) → r ≡ Fetched batch → ⊥) → CanBeTold r
@@ -128,9 +158,11 @@ told_unfetched id (Fetched b) is other = absurd (other b refl)
 told_unfetched id (Refused why) is other = tt
 told_unfetched id r is other = absurd is
 
-pub unfetched : (old new : SeatView) (id : ℕ) (r : Reply) (line : List ℕ) → IsCalled old (call.Fetch id) r new → ((batch : List Transfer) → r ≡ Fetched batch → ⊥) → line ≡ reply_line id r → Acts old new (Plans old.session id) line
+pub unfetched : (old new : SeatView) (id : ℕ) (r : Reply) (line : List ℕ) → IsCalled old (call.Fetch id) r new
+    → ((batch : List Transfer) → r ≡ Fetched batch → ⊥) → line ≡ reply_line id r → Acts old new (Plans old.session id) line
 unfetched old new id (Fetched b) line h other e = absurd (other b refl)
-unfetched old new id (Refused why) line h other e = acts_call old new id (call.Fetch id) (Refused why) line (Plans old.session id) h (inl (why, h.answers, refl)) e
+unfetched old new id (Refused why) line h other e = acts_call old new id (call.Fetch id) (Refused why) line (Plans old.session id) h
+    (inl (why, h.answers, refl)) e
 unfetched old new id r line h other e = absurd h.answers
 
 -- ---- the progress word
@@ -150,13 +182,18 @@ read_progress old new r line h e = record {
 
 -- ---- batch texts
 
-tells_fault : (p : SeatView) (shape : ShapeView) (text : List ℕ) (fault : BatchFault) (line : List ℕ) → shape ≡ p.shape → fault ≢ NoMemory → (fault ≢ NoMemory → IsFirstFault shape text fault) → line ≡ refusal_line (of_batch fault) → Acts p p (Submits p.shape p.session text) line
+tells_fault : (p : SeatView) (shape : ShapeView) (text : List ℕ) (fault : BatchFault) (line : List ℕ) → shape ≡ p.shape → fault ≢ NoMemory
+    → (fault ≢ NoMemory → IsFirstFault shape text fault) → line ≡ refusal_line (of_batch fault) → Acts p p (Submits p.shape p.session text) line
 tells_fault p shape text fault line same other first e =
-    says p (Submits p.shape p.session text) (refusal_line (of_batch fault)) line (inr (inl (fault, other, subst (λ (x : ShapeView). IsFirstFault x text fault) same (first other), refl))) e
+    says p (Submits p.shape p.session text) (refusal_line (of_batch fault)) line
+    (inr (inl (fault, other, subst (λ (x : ShapeView). IsFirstFault x text fault) same (first other), refl))) e
 
 -- the first fault of a batch text is told, or want of memory
-pub faulty : (p : SeatView) (shape : ShapeView) (text : List ℕ) (fault : BatchFault) (line : List ℕ) → shape ≡ p.shape → (fault ≢ NoMemory → IsFirstFault shape text fault) → (fault ≡ NoMemory → NeedsMemory shape text) → line ≡ refusal_line (of_batch fault) → Acts p p (Submits p.shape p.session text) line
-faulty p shape text NoMemory line same first needs e = says p (Submits p.shape p.session text) (refusal_line refusal.NoMemory) line (inr (inr (subst (λ (x : ShapeView). NeedsMemory x text) same (needs refl), refl))) e
+pub faulty : (p : SeatView) (shape : ShapeView) (text : List ℕ) (fault : BatchFault) (line : List ℕ) → shape ≡ p.shape
+    → (fault ≢ NoMemory → IsFirstFault shape text fault) → (fault ≡ NoMemory → NeedsMemory shape text) → line ≡ refusal_line (of_batch fault)
+    → Acts p p (Submits p.shape p.session text) line
+faulty p shape text NoMemory line same first needs e = says p (Submits p.shape p.session text) (refusal_line refusal.NoMemory) line
+    (inr (inr (subst (λ (x : ShapeView). NeedsMemory x text) same (needs refl), refl))) e
 faulty p shape text fault line same first needs e = tells_fault p shape text fault line same (λ x. cc) first e
 
 -- the command that there is

@@ -18,14 +18,17 @@ tells_one {MayTell} {refusal} {a} {b} t = record {
   loan = t.loan;
 }
 
-pub tells_more : {MayTell : Refusal → List ℕ → Type 0} {a b c : ListenerLog} → TellsOfRefusals MayTell a b → TellsOfRefusals MayTell b c → TellsOfRefusals MayTell a c
+pub tells_more : {MayTell : Refusal → List ℕ → Type 0} {a b c : ListenerLog} → TellsOfRefusals MayTell a b → TellsOfRefusals MayTell b c
+    → TellsOfRefusals MayTell a c
 tells_more {MayTell} {a} {b} {c} s t =
     let bytes_of : Telling → List ℕ = λ x. x.bytes in
-    let all : flat_map bytes_of (s.tellings ++ t.tellings) ≡ flat_map bytes_of s.tellings ++ flat_map bytes_of t.tellings = flat_map-append bytes_of s.tellings t.tellings in
+    let all : flat_map bytes_of (s.tellings ++ t.tellings) ≡ flat_map bytes_of s.tellings ++ flat_map bytes_of t.tellings =
+    flat_map-append bytes_of s.tellings t.tellings in
     record {
       tellings = s.tellings ++ t.tellings;
       each = every_append (λ x. MayTell x.refusal x.bytes) s.tellings t.tellings s.each t.each;
-      appended = subst (λ more. Appends a.bytes c.bytes more) (sym all) (appends_then a.bytes b.bytes c.bytes (flat_map bytes_of s.tellings) (flat_map bytes_of t.tellings) s.appended t.appended);
+      appended = subst (λ more. Appends a.bytes c.bytes more) (sym all)
+          (appends_then a.bytes b.bytes c.bytes (flat_map bytes_of s.tellings) (flat_map bytes_of t.tellings) s.appended t.appended);
       loan = t.loan ∙ s.loan;
     }
 

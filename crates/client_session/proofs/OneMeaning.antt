@@ -18,7 +18,8 @@ one_after word m n few less e = decimal_injective m n (omega (arith, few)) (omeg
 
 one_peek : (m n a b : ℕ) → CanBeSpelled (Peek m a) → CanBeSpelled (Peek n b) → line_of (Peek m a) ≡ line_of (Peek n b) → Peek m a ≡ Peek n b
 one_peek m n a b p q e =
-    let parts = one_number m n space (hex8 a) (hex8 b) p.0 q.0 space_ends (append_cancel_left (codes "peek ") (number m space ++ hex8 a) (number n space ++ hex8 b) e) in
+    let parts = one_number m n space (hex8 a) (hex8 b) p.0 q.0 space_ends
+    (append_cancel_left (codes "peek ") (number m space ++ hex8 a) (number n space ++ hex8 b) e) in
     ap (λ x. Peek x a) parts.0 ∙ ap (Peek n) (one_hex8 a b p.1 q.1 parts.1)
 
 one_poke : (m n a b v w : ℕ) → CanBeSpelled (Poke m a v) → CanBeSpelled (Poke n b w) → line_of (Poke m a v) ≡ line_of (Poke n b w) → Poke m a v ≡ Poke n b w

@@ -32,7 +32,8 @@ LinesTaken-none a h text = record {
   reads = omega arith;
 }
 
-pub LinesTaken-read : (a b c : Option (List ℕ)) (old mid new : PendingInput) (before after : List ℕ) (n : ℕ) → LinesTaken a b old mid before after n → TakesIn b c mid new → LinesTaken a c old new before after n
+pub LinesTaken-read : (a b c : Option (List ℕ)) (old mid new : PendingInput) (before after : List ℕ) (n : ℕ) → LinesTaken a b old mid before after n
+    → TakesIn b c mid new → LinesTaken a c old new before after n
 LinesTaken-read a b c old mid new before after n t more = record {
   bytes = t.bytes ++ more.bytes;
   consumed = consumes_then a b c t.bytes more.bytes t.consumed more.consumed;
@@ -46,11 +47,13 @@ LinesTaken-read a b c old mid new before after n t more = record {
 }
 
 pub LinesTaken-line : (a b : Option (List ℕ)) (old mid new : PendingInput) (before after text : List ℕ) (n k : ℕ) → LinesTaken a b old mid before after n
-    → HasLine mid.pending k → k ≤ LINE_BYTES → text ≡ after ++ take (k + 1) mid.pending → new.pending ≡ drop (k + 1) mid.pending → new.reads ≡ mid.reads → LinesTaken a b old new before text (n + 1)
+    → HasLine mid.pending k → k ≤ LINE_BYTES → text ≡ after ++ take (k + 1) mid.pending → new.pending ≡ drop (k + 1) mid.pending → new.reads ≡ mid.reads
+    → LinesTaken a b old new before text (n + 1)
 LinesTaken-line a b old mid new before after text n k t has short grows rest same =
     let line : List ℕ = take k mid.pending in
     let front = line_front mid.pending k has in
-    let flat : flat_map with_feed (t.lines ++ line ∷ []) ≡ flat_map with_feed t.lines ++ take (k + 1) mid.pending = flat_map-append with_feed t.lines (line ∷ []) ∙ ap (λ l. flat_map with_feed t.lines ++ l) (append-nil _ ∙ front) in
+    let flat : flat_map with_feed (t.lines ++ line ∷ []) ≡ flat_map with_feed t.lines ++ take (k + 1) mid.pending =
+    flat_map-append with_feed t.lines (line ∷ []) ∙ ap (λ l. flat_map with_feed t.lines ++ l) (append-nil _ ∙ front) in
     record {
       bytes = t.bytes;
       consumed = t.consumed;

@@ -1,5 +1,6 @@
 -- How one read follows another.
-use Rattle.std.proofs.Common.{◌≡◌, ◌+◌, ◌<◌, ◌≤◌, ℕ, zero, suc, List, [], ◌++◌, length, Option, Some, None, Result, Ok, Err, IfOk, IfErr, IfSome, MatchOption, subst, refl, sym, ap, ◌∙◌, append_assoc, append-nil, arith}
+use Rattle.std.proofs.Common.{◌≡◌, ◌+◌, ◌<◌, ◌≤◌, ℕ, zero, suc, List, [], ◌++◌, length, Option, Some, None, Result, Ok, Err, IfOk, IfErr, IfSome, MatchOption, subst, refl, sym, ap, ◌∙◌, append_assoc}
+use Rattle.std.proofs.Common.{append-nil, arith}
 use Rattle.std.proofs.lemmas.List.{length-append, nil_from_length}
 use Rattle.byte_streams.proofs.Carrying.{consumes_none, consumes_then}
 use Rattle.client_session.specs.declared.limits.TheConstants.{INPUT_BYTES, LINE_BYTES, MAX_READS}
@@ -23,7 +24,8 @@ TakesIn-more a b c old mid new t u = record {
 }
 
 -- what is left falls where a read gave n bytes
-pub fuel_read : (old new : PendingInput) (n : ℕ) → length new.pending ≡ length old.pending + n → length new.pending ≤ INPUT_BYTES → old.reads ≤ new.reads → new.reads ≤ MAX_READS → (0 < n → new.reads ≡ old.reads + 1) → fuel new ≤ fuel old
+pub fuel_read : (old new : PendingInput) (n : ℕ) → length new.pending ≡ length old.pending + n → length new.pending ≤ INPUT_BYTES → old.reads ≤ new.reads
+    → new.reads ≤ MAX_READS → (0 < n → new.reads ≡ old.reads + 1) → fuel new ≤ fuel old
 fuel_read old new zero longer room more limit counted = omega arith
 fuel_read old new (suc n) longer room more limit counted = let more = counted (omega arith) in omega arith
 
@@ -33,7 +35,8 @@ none_of None h = refl
 none_of (Some x) h = absurd (h x refl)
 
 -- where no more bytes come, and none are pending
-pub found_at_end : (r : Result (Option ℕ) InputFault) (known : Option (List ℕ)) (h : PendingInput) → IsAtEnd known → IfOk r (λ found. (found ≡ None) × (h.pending ≡ []))
+pub found_at_end : (r : Result (Option ℕ) InputFault) (known : Option (List ℕ)) (h : PendingInput) → IsAtEnd known
+    → IfOk r (λ found. (found ≡ None) × (h.pending ≡ []))
     → IfOk r (λ found. MatchOption found ((h.pending ≡ []) × IsAtEnd known) (λ n. HasLine h.pending n × (n ≤ LINE_BYTES)))
 found_at_end (Ok found) known h end is = rw is.0 (is.1, end)
 found_at_end (Err e) known h end is = tt
@@ -45,18 +48,21 @@ same_pending old new t same =
     sym t.kept ∙ ap (λ l. old.pending ++ l) none ∙ append-nil old.pending
 
 -- and so a line that is pending is cut
-pub cut_at_end : {a b : Option (List ℕ)} (r : Result (Option ℕ) InputFault) (old new : PendingInput) → TakesIn a b old new → length new.pending ≡ length old.pending → IsAtEnd b → IsSessionLine old.pending
+pub cut_at_end : {a b : Option (List ℕ)} (r : Result (Option ℕ) InputFault) (old new : PendingInput) → TakesIn a b old new → length new.pending
+    ≡ length old.pending → IsAtEnd b → IsSessionLine old.pending
     → IfErr r (λ e. (e ≡ Cut) × (0 < length new.pending)) → IfErr r (λ e. IsFaultAt e b new)
 cut_at_end (Ok found) old new t same end line err = tt
 cut_at_end (Err e) old new t same end line err = rw err.0 (subst IsSessionLine (sym (same_pending old new t same)) line, err.1, end)
 
 -- the reader failed, or was asked as often as it may be, before a line was there
-pub fault_before : (e : InputFault) (known : Option (List ℕ)) (old new : PendingInput) → IsSessionLine old.pending → HasBroughtNothing e old new → IsFaultAt e known new
+pub fault_before : (e : InputFault) (known : Option (List ℕ)) (old new : PendingInput) → IsSessionLine old.pending → HasBroughtNothing e old new
+    → IsFaultAt e known new
 fault_before Read known old new line none = subst IsSessionLine (sym none.0) line
 fault_before Turns known old new line none = (subst IsSessionLine (sym none.0) line, none.1)
 fault_before e known old new line none = absurd none.1
 
 -- the line in front stands where it was
-pub front_still : (found : Option PendingLine) (old new : PendingInput) → IfSome found (IsFront old.pending) → IfSome found (λ _. new ≡ old) → IfSome found (IsFront new.pending)
+pub front_still : (found : Option PendingLine) (old new : PendingInput) → IfSome found (IsFront old.pending) → IfSome found (λ _. new ≡ old)
+    → IfSome found (IsFront new.pending)
 front_still None old new is same = tt
 front_still (Some front) old new is same = rw same is

@@ -1,5 +1,6 @@
 -- One command taken from the input, and what a fault leaves.
-use Rattle.std.proofs.Common.{◌≡◌, ℕ, ◌+◌, ◌<◌, ◌≤◌, List, [], ◌∷◌, ◌++◌, length, take, drop, flat_map, Option, Some, Result, Ok, Err, IfErr, OnOk, Bool, false, MatchBool, sym, ap, ◌∙◌, append_assoc, append-nil, refl, subst, arith, inr}
+use Rattle.std.proofs.Common.{◌≡◌, ℕ, ◌+◌, ◌<◌, ◌≤◌, List, [], ◌∷◌, ◌++◌, length, take, drop, flat_map, Option, Some, Result, Ok, Err, IfErr, OnOk, Bool, false, MatchBool, sym, ap, ◌∙◌, append_assoc}
+use Rattle.std.proofs.Common.{append-nil, refl, subst, arith, inr}
 use Rattle.std.proofs.lemmas.List.{take-append-drop, length-append, length-drop}
 use Rattle.std.proofs.lemmas.Bool.{lt-ltb, le-ltb}
 use Rattle.batch.specs.declared.limits.TheConstants.{MAX_TRANSFERS}
@@ -14,7 +15,7 @@ use Rattle.client_session.specs.Commands.{Means}
 use Rattle.client_session.specs.Seats.{SeatView}
 use Rattle.client_session.specs.Replies.{with_feed}
 use Rattle.batch_book.specs.declared.entry.Entry.{Entry}
-use Rattle.client_session.specs.Turns.{Answer, Submits, DoesCommand, MayHaveAdded, SessionGoesOn, lines_after}
+use Rattle.client_session.specs.Turns.{CommandOutcome, Submits, DoesCommand, MayHaveAdded, SessionGoesOn, lines_after}
 use Rattle.client_session.specs.Sessions.{BeginsBatch, IsPartialCommand, RestAt}
 use Rattle.client_session.specs.Steps.{Acts, Breaks, IsDoneOrFailed, LinesTaken, LinesStopped, PendingAt, StandsAlone, TurnFails, TurnLost, TurnTaken, TurnStopped}
 use Rattle.client_session.specs.Asking.{GivesEachTime, GivesOrStops}
@@ -29,7 +30,8 @@ pub front_is : (bytes : List ℕ) (n : ℕ) → HasLine bytes n → bytes ≡ wi
 front_is bytes n has = sym (take-append-drop (n + 1) bytes) ∙ ap (λ l. l ++ drop (n + 1) bytes) (sym (line_front bytes n has))
 
 -- there was no memory for the first line of a batch
-pub stopped_at_once : (a : Option (List ℕ)) (old : PendingInput) (seat : SeatView) (n count : ℕ) → HasLine old.pending n → n ≤ LINE_BYTES → length old.pending ≤ INPUT_BYTES → BeginsBatch (take n old.pending) count → TurnStopped NoMemory a a old seat seat
+pub stopped_at_once : (a : Option (List ℕ)) (old : PendingInput) (seat : SeatView) (n count : ℕ) → HasLine old.pending n → n ≤ LINE_BYTES
+    → length old.pending ≤ INPUT_BYTES → BeginsBatch (take n old.pending) count → TurnStopped NoMemory a a old seat seat
 stopped_at_once a old seat n count has short room begins = record {
   bytes = [];
   consumed = consumes_none a;
@@ -48,7 +50,8 @@ stopped_at_once a old seat n count has short room begins = record {
 }
 
 -- all that is left after the first lines of a batch
-lines_are : (a b : Option (List ℕ)) (old mid new : PendingInput) (n k : ℕ) (before after : List ℕ) → HasLine old.pending n → mid.pending ≡ drop (n + 1) old.pending → (t : LinesTaken a b mid new before after k)
+lines_are : (a b : Option (List ℕ)) (old mid new : PendingInput) (n k : ℕ) (before after : List ℕ) → HasLine old.pending n → mid.pending
+    ≡ drop (n + 1) old.pending → (t : LinesTaken a b mid new before after k)
     → old.pending ++ t.bytes ≡ (with_feed (take n old.pending) ++ flat_map with_feed t.lines) ++ new.pending
 lines_are a b old mid new n k before after has rest t =
     ap (λ l. l ++ t.bytes) (front_is old.pending n has) ∙ append_assoc (with_feed (take n old.pending)) _ _
@@ -56,8 +59,10 @@ lines_are a b old mid new n k before after has rest t =
     ∙ sym (append_assoc (with_feed (take n old.pending)) _ _)
 
 -- a fault came in the lines of a batch
-pub stopped_in_lines : (e : ServeFault) (a b : Option (List ℕ)) (old mid new : PendingInput) (seat : SeatView) (n count : ℕ) (before after : List ℕ) → HasLine old.pending n → n ≤ LINE_BYTES
-    → BeginsBatch (take n old.pending) count → mid.pending ≡ drop (n + 1) old.pending → mid.reads ≡ old.reads → LinesStopped e a b mid new before after count → TurnStopped e a b old seat seat
+pub stopped_in_lines : (e : ServeFault) (a b : Option (List ℕ)) (old mid new : PendingInput) (seat : SeatView) (n count : ℕ) (before after : List ℕ)
+    → HasLine old.pending n → n ≤ LINE_BYTES
+    → BeginsBatch (take n old.pending) count → mid.pending ≡ drop (n + 1) old.pending → mid.reads ≡ old.reads → LinesStopped e a b mid new before after count
+    → TurnStopped e a b old seat seat
 stopped_in_lines e a b old mid new seat n count before after has short begins rest same s = record {
   bytes = t.bytes;
   consumed = t.consumed;
@@ -98,7 +103,8 @@ stopped_in_lines e a b old mid new seat n count before after has short begins re
   left e h = absurd h
 
 -- so it is none of recording
-pub lines_unlost : (e : ServeFault) (a b : Option (List ℕ)) (old new : PendingInput) (before after : List ℕ) (wanted : ℕ) → e ≡ Record → LinesStopped e a b old new before after wanted → ⊥
+pub lines_unlost : (e : ServeFault) (a b : Option (List ℕ)) (old new : PendingInput) (before after : List ℕ) (wanted : ℕ) → e ≡ Record
+    → LinesStopped e a b old new before after wanted → ⊥
 lines_unlost e a b old new before after wanted is s = subst (λ (x : ServeFault). PendingAt x b new) is s.at
 
 -- a fault came first
@@ -107,7 +113,8 @@ fails Record a b old from to s = absurd s.rest
 fails e a b old from to s = s
 
 -- a call wasn't made
-lost_as : (e : ServeFault) (a b : Option (List ℕ)) (old : PendingInput) (from to : SeatView) → e ≡ Record → TurnLost a b old from to → TurnFails e a b old from to
+lost_as : (e : ServeFault) (a b : Option (List ℕ)) (old : PendingInput) (from to : SeatView) → e ≡ Record → TurnLost a b old from to
+    → TurnFails e a b old from to
 lost_as e a b old from to is lost = subst (λ (x : ServeFault). TurnFails x a b old from to) (sym is) lost
 
 few_after : (count : ℕ) → count ≤ MAX_TRANSFERS → lines_after (Some (Batch count)) ≡ count
@@ -117,12 +124,15 @@ many_after : (count : ℕ) → MAX_TRANSFERS < count → lines_after (Some (Batc
 many_after count many = rw (lt-ltb MAX_TRANSFERS count many) refl
 
 -- a batch was taken whole, and submitted
-pub batch_taken : (a b : Option (List ℕ)) (old mid new : PendingInput) (from to : SeatView) (n count : ℕ) (before after all line : List ℕ) → HasLine old.pending n → n ≤ LINE_BYTES
-    → BeginsBatch (take n old.pending) count → mid.pending ≡ drop (n + 1) old.pending → before ≡ take (n + 1) old.pending → LinesTaken a b mid new before after count
+pub batch_taken : (a b : Option (List ℕ)) (old mid new : PendingInput) (from to : SeatView) (n count : ℕ) (before after all line : List ℕ)
+    → HasLine old.pending n → n ≤ LINE_BYTES
+    → BeginsBatch (take n old.pending) count → mid.pending ≡ drop (n + 1) old.pending → before ≡ take (n + 1) old.pending → LinesTaken a b mid new before after
+    count
     → mid.reads ≡ old.reads → all ≡ after → Acts from to (Submits from.shape from.session all) line → TurnTaken a b old new from to line false
 batch_taken a b old mid new from to n count before after all line has short begins rest first t reads same acts =
     let head : List ℕ = take n old.pending in
-    let text : all ≡ with_feed head ++ flat_map with_feed t.lines = same ∙ t.text ∙ ap (λ l. l ++ flat_map with_feed t.lines) (first ∙ sym (line_front old.pending n has)) in
+    let text : all ≡ with_feed head ++ flat_map with_feed t.lines = same ∙ t.text ∙ ap (λ l. l ++ flat_map with_feed t.lines)
+    (first ∙ sym (line_front old.pending n has)) in
     record {
       turn = record { head = head; body = t.lines; command = Some (Batch count); did = acts.answer };
       is = record {
@@ -142,12 +152,20 @@ batch_taken a b old mid new from to n count before after all line has short begi
     }
 
 -- it was taken whole, and not submitted
-pub batch_lost : (e : ServeFault) (a b : Option (List ℕ)) (old mid new : PendingInput) (from to : SeatView) (n count : ℕ) (before after : List ℕ) → HasLine old.pending n → n ≤ LINE_BYTES
+pub batch_lost : (e : ServeFault) (a b : Option (List ℕ)) (old mid new : PendingInput) (from to : SeatView) (n count : ℕ) (before after : List ℕ)
+    → HasLine old.pending n → n ≤ LINE_BYTES
     → BeginsBatch (take n old.pending) count → mid.pending ≡ drop (n + 1) old.pending → LinesTaken a b mid new before after count
     → Breaks e from to (λ (es : List Entry). es ≡ []) → TurnFails e a b old from to
 batch_lost e a b old mid new from to n count before after has short begins rest t broken = lost_as e a b old from to broken.fault_is record {
   turn = record { head = take n old.pending; body = t.lines; command = Some (Batch count); entries = broken.entries };
-  is = record { head = line_is old.pending n has short; body = t.each; means = begins.0; whole = t.count ∙ sym (few_after count begins.1); begun = broken.begun };
+  is = record {
+    head = line_is old.pending n has short;
+    body = t.each;
+    means = begins.0;
+    whole = t.count ∙ sym (few_after count begins.1);
+    begun =
+        broken.begun;
+  };
   bytes = t.bytes;
   consumed = t.consumed;
   rest = new.pending;
@@ -157,14 +175,20 @@ batch_lost e a b old mid new from to n count before after has short begins rest 
 }
 
 -- either, by what came of it
-pub batch_done : {T : Type 0} (r : Result T ServeFault) (a b : Option (List ℕ)) (old mid new : PendingInput) (from to : SeatView) (n count : ℕ) (before after all line : List ℕ) → HasLine old.pending n → n ≤ LINE_BYTES
-    → BeginsBatch (take n old.pending) count → mid.pending ≡ drop (n + 1) old.pending → before ≡ take (n + 1) old.pending → LinesTaken a b mid new before after count
-    → mid.reads ≡ old.reads → all ≡ after → IsDoneOrFailed from to (Submits from.shape from.session all) (λ (es : List Entry). es ≡ []) line r → OnOk r (TurnTaken a b old new from to line false) × IfErr r (λ e. TurnFails e a b old from to)
-batch_done (Ok x) a b old mid new from to n count before after all line has short begins rest first t reads same acts = (batch_taken a b old mid new from to n count before after all line has short begins rest first t reads same acts, tt)
-batch_done (Err e) a b old mid new from to n count before after all line has short begins rest first t reads same broken = (tt, batch_lost e a b old mid new from to n count before after has short begins rest t broken)
+pub batch_done : {T : Type 0} (r : Result T ServeFault) (a b : Option (List ℕ)) (old mid new : PendingInput) (from to : SeatView) (n count : ℕ)
+    (before after all line : List ℕ) → HasLine old.pending n → n ≤ LINE_BYTES
+    → BeginsBatch (take n old.pending) count → mid.pending ≡ drop (n + 1) old.pending → before ≡ take (n + 1) old.pending → LinesTaken a b mid new before after
+    count
+    → mid.reads ≡ old.reads → all ≡ after → IsDoneOrFailed from to (Submits from.shape from.session all) (λ (es : List Entry). es ≡ []) line r
+    → OnOk r (TurnTaken a b old new from to line false) × IfErr r (λ e. TurnFails e a b old from to)
+batch_done (Ok x) a b old mid new from to n count before after all line has short begins rest first t reads same acts =
+    (batch_taken a b old mid new from to n count before after all line has short begins rest first t reads same acts, tt)
+batch_done (Err e) a b old mid new from to n count before after all line has short begins rest first t reads same broken =
+    (tt, batch_lost e a b old mid new from to n count before after has short begins rest t broken)
 
 -- the reader isn't asked by what is done then
-pub asked_then : {T : Type 0} (r : Result T ServeFault) {a b : Option ℕ} {k l : ℕ} (from to : SeatView) (IsSo : Answer → Type 0) (HasBegun : List Entry → Type 0) (line : List ℕ) → GivesEachTime a b k l → IsDoneOrFailed from to IsSo HasBegun line r → GivesOrStops a b k l r
+pub asked_then : {T : Type 0} (r : Result T ServeFault) {a b : Option ℕ} {k l : ℕ} (from to : SeatView) (IsSo : CommandOutcome → Type 0)
+    (HasBegun : List Entry → Type 0) (line : List ℕ) → GivesEachTime a b k l → IsDoneOrFailed from to IsSo HasBegun line r → GivesOrStops a b k l r
 asked_then (Ok x) from to IsSo HasBegun line gives acts = gives
 asked_then (Err e) from to IsSo HasBegun line gives broken = rw broken.fault_is (stops_here (Some Record) gives (λ few. few))
 
@@ -173,9 +197,11 @@ none_after (Some (Batch count)) h = many_after count h
 none_after command h = refl
 
 -- a command with no lines after its own was taken, and done
-pub alone_taken : (a : Option (List ℕ)) (old new : PendingInput) (from to : SeatView) (n : ℕ) (command : Option SessionCommand) (line : List ℕ) (ends : Bool) → HasLine old.pending n → n ≤ LINE_BYTES
+pub alone_taken : (a : Option (List ℕ)) (old new : PendingInput) (from to : SeatView) (n : ℕ) (command : Option SessionCommand) (line : List ℕ) (ends : Bool)
+    → HasLine old.pending n → n ≤ LINE_BYTES
     → Means (take n old.pending) command → StandsAlone command → new.pending ≡ drop (n + 1) old.pending → new.reads ≡ old.reads
-    → ((text : List ℕ) → Acts from to (DoesCommand from.shape from.session command text) line) → MatchBool ends (command ≡ Some Bye) (SessionGoesOn command) → TurnTaken a a old new from to line ends
+    → ((text : List ℕ) → Acts from to (DoesCommand from.shape from.session command text) line) → MatchBool ends (command ≡ Some Bye) (SessionGoesOn command)
+    → TurnTaken a a old new from to line ends
 alone_taken a old new from to n command line ends has short means alone rest same acts last =
     let done = acts (with_feed (take n old.pending) ++ []) in
     record {
@@ -189,7 +215,8 @@ alone_taken a old new from to n command line ends has short means alone rest sam
       };
       bytes = [];
       consumed = consumes_none a;
-      kept = append-nil old.pending ∙ front_is old.pending n has ∙ ap (λ l. with_feed (take n old.pending) ++ l) (sym rest) ∙ ap (λ l. l ++ new.pending) (sym (append-nil (with_feed (take n old.pending))));
+      kept = append-nil old.pending ∙ front_is old.pending n has ∙ ap (λ l. with_feed (take n old.pending) ++ l) (sym rest)
+          ∙ ap (λ l. l ++ new.pending) (sym (append-nil (with_feed (take n old.pending))));
       reads = omega (arith, same);
       did = done.did;
       line_is = done.line_is;
@@ -197,15 +224,18 @@ alone_taken a old new from to n command line ends has short means alone rest sam
     }
 
 -- a call of it wasn't made
-pub alone_lost : (e : ServeFault) (a : Option (List ℕ)) (old new : PendingInput) (from to : SeatView) (n : ℕ) (command : Option SessionCommand) → HasLine old.pending n → n ≤ LINE_BYTES
-    → Means (take n old.pending) command → StandsAlone command → new.pending ≡ drop (n + 1) old.pending → Breaks e from to (MayHaveAdded from.session command) → TurnFails e a a old from to
+pub alone_lost : (e : ServeFault) (a : Option (List ℕ)) (old new : PendingInput) (from to : SeatView) (n : ℕ) (command : Option SessionCommand)
+    → HasLine old.pending n → n ≤ LINE_BYTES
+    → Means (take n old.pending) command → StandsAlone command → new.pending ≡ drop (n + 1) old.pending → Breaks e from to (MayHaveAdded from.session command)
+    → TurnFails e a a old from to
 alone_lost e a old new from to n command has short means alone rest broken = lost_as e a a old from to broken.fault_is record {
   turn = record { head = take n old.pending; body = []; command = command; entries = broken.entries };
   is = record { head = line_is old.pending n has short; body = tt; means = means; whole = sym (none_after command alone); begun = broken.begun };
   bytes = [];
   consumed = consumes_none a;
   rest = new.pending;
-  kept = append-nil old.pending ∙ front_is old.pending n has ∙ ap (λ l. with_feed (take n old.pending) ++ l) (sym rest) ∙ ap (λ l. l ++ new.pending) (sym (append-nil (with_feed (take n old.pending))));
+  kept = append-nil old.pending ∙ front_is old.pending n has ∙ ap (λ l. with_feed (take n old.pending) ++ l) (sym rest)
+      ∙ ap (λ l. l ++ new.pending) (sym (append-nil (with_feed (take n old.pending))));
   goes_on = broken.goes_on;
   asked = broken.asked;
 }

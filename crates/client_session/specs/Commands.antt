@@ -1,10 +1,13 @@
 -- The lines that are commands. The grammar is this project's choice.
-use Rattle.std.specs.Prelude.{◌≡◌, ◌≢◌, ℕ, List, ◌∷◌, ◌++◌, codes, Bool, true, false, Option, Some, None}
+use Rattle.std.specs.Prelude.{◌≡◌, ◌≢◌, ℕ, List, ◌∷◌, ◌++◌, codes, Bool, true, false, Option, Some}
+use Rattle.std.specs.Prelude.{None}
 use Rattle.std.specs.Fmt.{decimal}
 use Rattle.batch.specs.Text.{IsNumber, number, space}
 use Rattle.line_words.specs.HexWords.{IsWord, hex8}
 use Rattle.client_session.specs.declared.command.SessionCommand.{SessionCommand}
-use Rattle.client_session.specs.declared.command.SessionCommand.TheVariants.{Batch, Plan, Run, Show, Drop, Peek, Poke, Progress, Bye}
+use Rattle.client_session.specs.declared.command.SessionCommand.TheVariants.{Batch, Plan, Run, Show}
+use Rattle.client_session.specs.declared.command.SessionCommand.TheVariants.{Drop, Peek, Poke}
+use Rattle.client_session.specs.declared.command.SessionCommand.TheVariants.{Progress, Bye}
 
 -- the line of a command, without its line feed
 abbrev pub line_of : SessionCommand → List ℕ

@@ -4,7 +4,8 @@ use Rattle.std.specs.Io.KnownBytes.{IsAtEnd}
 use Rattle.client_session.specs.declared.limits.TheConstants.{LINE_BYTES, MAX_READS}
 use Rattle.client_session.specs.Bytes.{PendingInput, HasNoFeed, IsSessionLine}
 use Rattle.client_session.specs.declared.input.InputFault.{InputFault}
-use Rattle.client_session.specs.declared.input.InputFault.TheVariants.{Read, LineTooLong, Cut, Turns}
+use Rattle.client_session.specs.declared.input.InputFault.TheVariants.{Read, LineTooLong, Cut}
+use Rattle.client_session.specs.declared.input.InputFault.TheVariants.{Turns}
 
 -- the reader failed, or was asked as often as it may be
 abbrev pub IsReadOrTurns : InputFault → ℕ → Type 0

@@ -25,8 +25,9 @@ pub record Telling : Type 0 where
   pub bytes : List ℕ
 
 -- of some refusals, one after another, this was told, as may be told of each; and nothing else
-pub record TellsOfRefusals (MayTell : Refusal → List ℕ → Type 0) (old new : ListenerLog) : Type 0 where
-  pub tellings : List Telling
-  pub each : AllByRecursion (λ t. MayTell t.refusal t.bytes) tellings
-  pub appended : Appends old.bytes new.bytes (flat_map (λ t. t.bytes) tellings)
-  pub loan : new.loan ≡ old.loan
+pub record TellsOfRefusals (MayTell : Refusal → List ℕ → Type 0) (old new : ListenerLog) : Type 0
+  where
+    pub tellings : List Telling
+    pub each : AllByRecursion (λ t. MayTell t.refusal t.bytes) tellings
+    pub appended : Appends old.bytes new.bytes (flat_map (λ t. t.bytes) tellings)
+    pub loan : new.loan ≡ old.loan

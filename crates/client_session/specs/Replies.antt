@@ -8,7 +8,9 @@ use Rattle.setting_runner.specs.declared.outcome.StopCause.TheVariants.{Port, Sw
 use Rattle.batch_book.specs.declared.stored_batch.BatchState.{BatchState}
 use Rattle.batch_book.specs.declared.stored_batch.BatchState.TheVariants as state
 use Rattle.batch_book.specs.declared.reply.Reply.{Reply}
-use Rattle.batch_book.specs.declared.reply.Reply.TheVariants.{Accepted, Fetched, Settled, Ran, Stopped, RunRefused, Shown, Discarded, Word, Poked, Refused}
+use Rattle.batch_book.specs.declared.reply.Reply.TheVariants.{Accepted, Fetched, Settled, Ran}
+use Rattle.batch_book.specs.declared.reply.Reply.TheVariants.{Stopped, RunRefused, Shown, Discarded}
+use Rattle.batch_book.specs.declared.reply.Reply.TheVariants.{Word, Poked, Refused}
 use Rattle.batch_book.specs.declared.reading.Reading.{Reading}
 use Rattle.line_words.specs.HexWords.{hex8}
 use Rattle.refusals.specs.Refusals.{refusal_line}

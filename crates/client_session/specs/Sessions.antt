@@ -1,19 +1,23 @@
 -- A session: the bytes read, the entries added, the progress seen, and the bytes written.
-use Rattle.std.specs.Prelude.{◌≡◌, ℕ, ◌+◌, ◌<◌, ◌≤◌, ◌⊎◌, Bool, true, false, List, [], ◌∷◌, ◌++◌, length, take, flat_map, Option, Some, None, Result, Ok, Err}
+use Rattle.std.specs.Prelude.{◌≡◌, ℕ, ◌+◌, ◌<◌, ◌≤◌, ◌⊎◌, Bool, true, false, List, [], ◌∷◌, ◌++◌}
+use Rattle.std.specs.Prelude.{length, take, flat_map, Option, Some, None, Result, Ok, Err}
 use Rattle.std.specs.List.{AllByRecursion}
 use Rattle.std.specs.Io.KnownBytes.{Consumes, Appends, IsAtEnd}
 use Rattle.batch.specs.declared.limits.TheConstants.{MAX_TRANSFERS}
 use Rattle.batch_book.specs.declared.entry.Entry.{Entry}
 use Rattle.batch_book.specs.History.{IsPrefix}
 use Rattle.batch_book.specs.Seats.{SeatState}
-use Rattle.client_session.specs.declared.limits.TheConstants.{REPLY_BUFFER_BYTES, INPUT_BYTES, LINE_BYTES, MAX_READS}
+use Rattle.client_session.specs.declared.limits.TheConstants.{REPLY_BUFFER_BYTES, INPUT_BYTES}
+use Rattle.client_session.specs.declared.limits.TheConstants.{LINE_BYTES, MAX_READS}
 use Rattle.client_session.specs.declared.command.SessionCommand.TheVariants.{Batch, Bye}
 use Rattle.client_session.specs.declared.fault.ServeFault.{ServeFault}
-use Rattle.client_session.specs.declared.fault.ServeFault.TheVariants.{Read, Write, LineTooLong, Cut, Turns, NoMemory, Record}
+use Rattle.client_session.specs.declared.fault.ServeFault.TheVariants.{Read, Write, LineTooLong}
+use Rattle.client_session.specs.declared.fault.ServeFault.TheVariants.{Cut, Turns, NoMemory, Record}
 use Rattle.client_session.specs.Bytes.{HasNoFeed, IsSessionLine}
 use Rattle.client_session.specs.Commands.{Means}
 use Rattle.client_session.specs.Seats.{SeatView, GoesOnFrom}
-use Rattle.client_session.specs.Turns.{Turn, IsTurn, LostTurn, IsLostTurn, SessionGoesOn, turn_text, lost_text, lines_text, AreReadings}
+use Rattle.client_session.specs.Turns.{Turn, IsTurn, LostTurn, IsLostTurn, SessionGoesOn, turn_text}
+use Rattle.client_session.specs.Turns.{lost_text, lines_text, AreReadings}
 
 -- ---- the session
 

@@ -1,5 +1,6 @@
 -- What the parts of a session do.
-use Rattle.std.specs.Prelude.{◌≡◌, ℕ, ◌+◌, ◌*◌, ◌<◌, ◌≤◌, ◌⊎◌, Bool, true, false, List, [], ◌++◌, length, take, Option, Some, Result, Ok, Err, MatchBool}
+use Rattle.std.specs.Prelude.{◌≡◌, ℕ, ◌+◌, ◌*◌, ◌<◌, ◌≤◌, ◌⊎◌, Bool, true, false, List, [], ◌++◌}
+use Rattle.std.specs.Prelude.{length, take, Option, Some, Result, Ok, Err, MatchBool}
 use Rattle.std.specs.List.{AllByRecursion}
 use Rattle.std.specs.Io.KnownBytes.{Consumes, Appends, IsAtEnd}
 use Rattle.byte_streams.specs.Writing.{IsCutShort}
@@ -9,18 +10,22 @@ use Rattle.batch_book.specs.declared.entry.Entry.{Entry}
 use Rattle.batch_book.specs.declared.call.Call.TheVariants.{Fetch}
 use Rattle.batch_book.specs.declared.reply.Reply.{Reply}
 use Rattle.batch_book.specs.declared.reply.Reply.TheVariants.{Fetched, Ran}
-use Rattle.client_session.specs.declared.limits.TheConstants.{REPLY_BUFFER_BYTES, INPUT_BYTES, LINE_BYTES, MAX_READS}
+use Rattle.client_session.specs.declared.limits.TheConstants.{REPLY_BUFFER_BYTES, INPUT_BYTES}
+use Rattle.client_session.specs.declared.limits.TheConstants.{LINE_BYTES, MAX_READS}
 use Rattle.client_session.specs.declared.input.InputFault.{InputFault}
 use Rattle.client_session.specs.declared.input.InputFault.TheVariants as input
 use Rattle.client_session.specs.declared.command.SessionCommand.{SessionCommand}
 use Rattle.client_session.specs.declared.command.SessionCommand.TheVariants.{Batch, Bye}
 use Rattle.client_session.specs.declared.fault.ServeFault.{ServeFault}
-use Rattle.client_session.specs.declared.fault.ServeFault.TheVariants.{Read, Write, LineTooLong, Cut, Turns, NoMemory, Record}
+use Rattle.client_session.specs.declared.fault.ServeFault.TheVariants.{Read, Write, LineTooLong}
+use Rattle.client_session.specs.declared.fault.ServeFault.TheVariants.{Cut, Turns, NoMemory, Record}
 use Rattle.client_session.specs.Bytes.{PendingInput, HasLine, HasNoFeed, IsSessionLine}
 use Rattle.client_session.specs.declared.pending_line.PendingLine.{PendingLine}
 use Rattle.client_session.specs.Commands.{Means}
 use Rattle.client_session.specs.Seats.{SeatView, GoesOnFrom}
-use Rattle.client_session.specs.Turns.{Turn, IsTurn, LostTurn, IsLostTurn, SessionGoesOn, Answer, turn_text, lost_text, lines_text, readings_of, shown}
+use Rattle.client_session.specs.Turns.{Turn, IsTurn, LostTurn, IsLostTurn, SessionGoesOn}
+use Rattle.client_session.specs.Turns.{CommandOutcome}
+use Rattle.client_session.specs.Turns.{turn_text, lost_text, lines_text, readings_of, shown}
 use Rattle.client_session.specs.Sessions.{RestAt}
 
 abbrev pub of_input : InputFault → ServeFault
@@ -41,7 +46,7 @@ CanBeTold (Ran run settings words) = words ≤ MAX_TRANSFERS * MAX_WORDS
 CanBeTold reply = Unit {0}
 
 -- the line in front of these bytes, and what it commands
-abbrev pub IsFront : List ℕ → Front → Type 0
+abbrev pub IsFront : List ℕ → PendingLine → Type 0
 IsFront bytes front =
     HasLine bytes front.length × (front.length ≤ LINE_BYTES)
     × Means (take front.length bytes) front.command
@@ -52,15 +57,15 @@ StandsAlone (Some (Batch count)) = MAX_TRANSFERS < count
 StandsAlone command = Unit {0}
 
 -- the seat did this
-pub record Did (old new : SeatView) (a : Answer) : Type 0 where
+pub record Did (old new : SeatView) (a : CommandOutcome) : Type 0 where
   pub goes_on : GoesOnFrom false old new
   pub asked : new.asked ≡ old.asked ++ a.entries
   pub low : AllByRecursion (λ r. old.seen ≤ r) (readings_of a.reading)
   pub high : AllByRecursion (λ v. v ≤ new.seen) (shown a)
 
 -- something such was done, and this is its line
-pub record Acts (old new : SeatView) (IsSo : Answer → Type 0) (line : List ℕ) : Type 0 where
-  pub answer : Answer
+pub record Acts (old new : SeatView) (IsSo : CommandOutcome → Type 0) (line : List ℕ) : Type 0 where
+  pub answer : CommandOutcome
   pub did : Did old new answer
   pub is_so : IsSo answer
   pub line_is : line ≡ answer.line
@@ -75,7 +80,8 @@ pub record Breaks (fault : ServeFault) (old new : SeatView)
   pub begun : HasBegun entries
 
 -- something such was done, and this is its line; or a call wasn't made
-abbrev pub IsDoneOrFailed : {T : Type 0} → SeatView → SeatView → (Answer → Type 0) → (List Entry → Type 0)
+abbrev pub IsDoneOrFailed : {T : Type 0} → SeatView → SeatView → (CommandOutcome → Type 0)
+    → (List Entry → Type 0)
     → List ℕ → Result T ServeFault → Type 0
 IsDoneOrFailed old new IsSo HasBegun line (Ok done) = Acts old new IsSo line
 IsDoneOrFailed old new IsSo HasBegun line (Err fault) = Breaks fault old new HasBegun

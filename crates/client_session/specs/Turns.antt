@@ -1,5 +1,6 @@
 -- One command with its lines, what it did, and its reply line.
-use Rattle.std.specs.Prelude.{◌≡◌, ◌≢◌, ℕ, ◌<◌, ◌≤◌, ◌⊎◌, nat_lt, if◌then◌else◌, List, [], ◌∷◌, ◌++◌, length, map, flat_map, codes, Option, Some, None}
+use Rattle.std.specs.Prelude.{◌≡◌, ◌≢◌, ℕ, ◌<◌, ◌≤◌, ◌⊎◌, nat_lt, if◌then◌else◌, List, [], ◌∷◌}
+use Rattle.std.specs.Prelude.{◌++◌, length, map, flat_map, codes, Option, Some, None}
 use Rattle.std.specs.List.{AllByRecursion}
 use Rattle.batch.specs.declared.limits.TheConstants.{MAX_TRANSFERS}
 use Rattle.batch.specs.declared.fault.BatchFault.{BatchFault}
@@ -24,7 +25,9 @@ use Rattle.refusals.specs.declared.refusal.Refusal.TheVariants as refusal
 use Rattle.refusals.specs.Refusals.{refusal_line}
 use Rattle.refusals.specs.Sources.{of_batch}
 use Rattle.client_session.specs.declared.command.SessionCommand.{SessionCommand}
-use Rattle.client_session.specs.declared.command.SessionCommand.TheVariants.{Batch, Plan as PlanOf, Run, Show, Drop, Peek, Poke, Progress, Bye}
+use Rattle.client_session.specs.declared.command.SessionCommand.TheVariants.{Batch, Plan as PlanOf}
+use Rattle.client_session.specs.declared.command.SessionCommand.TheVariants.{Run, Show, Drop, Peek}
+use Rattle.client_session.specs.declared.command.SessionCommand.TheVariants.{Poke, Progress, Bye}
 use Rattle.batch_book.specs.declared.reading.Reading.{Reading}
 use Rattle.client_session.specs.Bytes.{IsSessionLine}
 use Rattle.client_session.specs.Commands.{Means}
@@ -34,29 +37,29 @@ use Rattle.client_session.specs.Seats.{logged, reading_value}
 -- ---- what a command did
 
 -- the entries that it added, the progress that it read, and its reply line
-pub record Answer : Type 0 where
+pub record CommandOutcome : Type 0 where
   pub entries : List Entry
   pub reading : Option Reading
   pub line : List ℕ
 
-abbrev pub plain_answer : List Entry → List ℕ → Answer
+abbrev pub plain_answer : List Entry → List ℕ → CommandOutcome
 plain_answer entries line = record { entries = entries; reading = None; line = line }
 
 -- it is refused so, without a call
-abbrev pub refuses : Refusal → Answer
+abbrev pub refuses : Refusal → CommandOutcome
 refuses why = plain_answer [] (refusal_line why)
 
 -- a call was made, and this was its reply, which is the line
-abbrev pub tells : ℕ → ℕ → Call → Reply → Answer
+abbrev pub tells : ℕ → ℕ → Call → Reply → CommandOutcome
 tells by id call reply = plain_answer (logged by call reply) (reply_line id reply)
 
 -- a call was made, and its reply is the line
-abbrev pub TellsReply : ℕ → ℕ → Call → Answer → Type 0
+abbrev pub TellsReply : ℕ → ℕ → Call → CommandOutcome → Type 0
 TellsReply by id call a = (reply : Reply) × IsReplyTo call reply × (a ≡ tells by id call reply)
 
 -- The lines of a batch: what they denote was submitted, or their first fault is the line, or there
 -- was no memory for a transfer that they have.
-abbrev pub Submits : ShapeView → ℕ → List ℕ → Answer → Type 0
+abbrev pub Submits : ShapeView → ℕ → List ℕ → CommandOutcome → Type 0
 Submits shape by text a =
     ((batch : List Transfer) × Denotes shape text batch × TellsReply by 0 (call.Submit batch) a)
     ⊎ ((fault : BatchFault) × (fault ≢ NoMemory) × IsFirstFault shape text fault
@@ -64,14 +67,14 @@ Submits shape by text a =
     ⊎ (NeedsMemory shape text × (a ≡ refuses refusal.NoMemory))
 
 -- a batch was fetched, and a plan of it was settled: this was the reply, which is the line
-abbrev pub settles : ℕ → ℕ → List Transfer → Plan → Reply → Answer
+abbrev pub settles : ℕ → ℕ → List Transfer → Plan → Reply → CommandOutcome
 settles by id batch plan reply =
     plain_answer (entry by (call.Fetch id) (Fetched batch) ∷ logged by (call.Settle id plan) reply)
     (reply_line id reply)
 
 -- A batch was fetched: a plan of it was settled, and the reply is the line, or there was no memory
 -- to plan it.
-abbrev pub Settles : ℕ → ℕ → List Transfer → Answer → Type 0
+abbrev pub Settles : ℕ → ℕ → List Transfer → CommandOutcome → Type 0
 Settles by id batch a =
     ((plan : Plan) × (reply : Reply) × IsPlan plan × (plan.batch ≡ batch)
     × IsReplyTo (call.Settle id plan) reply
@@ -80,20 +83,20 @@ Settles by id batch a =
     (refusal_line refusal.NoMemory))
 
 -- `plan`: fetching was refused, and that is the line; or a batch was fetched
-abbrev pub Plans : ℕ → ℕ → Answer → Type 0
+abbrev pub Plans : ℕ → ℕ → CommandOutcome → Type 0
 Plans by id a =
     ((why : BookRefusal) × IsReplyTo (call.Fetch id) (Refused why)
     × (a ≡ tells by id (call.Fetch id) (Refused why)))
     ⊎ ((batch : List Transfer) × Settles by id batch a)
 
 -- `progress`: the word was read
-abbrev pub ReadsProgress : Answer → Type 0
+abbrev pub ReadsProgress : CommandOutcome → Type 0
 ReadsProgress a =
     (r : Reading) × (r.done < RUN_STEP)
     × (a ≡ record { entries = []; reading = Some r; line = progress_line r })
 
 -- What a command may do: this is the whole table of a session. The text is that of its lines.
-abbrev pub DoesCommand : ShapeView → ℕ → Option SessionCommand → List ℕ → Answer → Type 0
+abbrev pub DoesCommand : ShapeView → ℕ → Option SessionCommand → List ℕ → CommandOutcome → Type 0
 DoesCommand shape by None text a = a ≡ refuses refusal.Line
 DoesCommand shape by (Some (Batch count)) text a =
     ((MAX_TRANSFERS < count) × (a ≡ refuses refusal.TooMany))
@@ -116,7 +119,7 @@ pub record Turn : Type 0 where
   pub head : List ℕ
   pub body : List (List ℕ)
   pub command : Option SessionCommand
-  pub did : Answer
+  pub did : CommandOutcome
 
 abbrev pub lines_text : List (List ℕ) → List ℕ
 lines_text lines = flat_map with_feed lines
@@ -180,7 +183,7 @@ readings_of None = []
 readings_of (Some r) = reading_value r ∷ []
 
 -- a reading, and the values of the entries
-abbrev pub shown : Answer → List ℕ
+abbrev pub shown : CommandOutcome → List ℕ
 shown a = readings_of a.reading ++ map (λ (e : Entry). value_of e.reply) a.entries
 
 -- no reading of these turns is after the value

@@ -1,7 +1,8 @@
 //! What is done for a command, and its reply line, which is put into an empty one.
 
 ghost use Rattle.std.specs.Prelude.{◌≡◌, [], ℕ, List, true, OnErr};
-ghost use Rattle.client_session.specs.Turns.{TellsReply, Submits, Plans, DoesCommand, IsFetching, MayHaveAdded};
+ghost use Rattle.client_session.specs.Turns.{TellsReply, Submits, Plans, DoesCommand, IsFetching};
+ghost use Rattle.client_session.specs.Turns.{MayHaveAdded};
 ghost use Rattle.client_session.specs.Steps.{IsNoFetch, StandsAlone, IsDoneOrFailed};
 
 use crate::command::SessionCommand;
@@ -28,7 +29,8 @@ fn call<R: Threads + Wait + Sync, X: Setup>(
 ) -> Result<(), ServeFault>
     requires empty { line.old ≡ [] }
     requires other { IsNoFetch call }
-    ensures done { IsDoneOrFailed seat.old seat.new (TellsReply seat.old.session id call) (λ es. es ≡ [])
+    ensures done { IsDoneOrFailed seat.old seat.new (TellsReply seat.old.session id call)
+        (λ es. es ≡ [])
         line.new result }
     ensures loses { OnErr result (X.Entries.loses ≡ true) }
 {
@@ -51,7 +53,8 @@ pub(crate) fn submit<R: Threads + Wait + Sync, X: Setup>(
     text: &[u8],
 ) -> Result<(), ServeFault>
     requires { line.old ≡ [] }
-    ensures done { IsDoneOrFailed seat.old seat.new (Submits seat.old.shape seat.old.session text.now)
+    ensures done { IsDoneOrFailed seat.old seat.new
+        (Submits seat.old.shape seat.old.session text.now)
         (λ es. es ≡ []) line.new result }
     ensures loses { OnErr result (X.Entries.loses ≡ true) }
 {

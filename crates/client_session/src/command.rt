@@ -1,6 +1,7 @@
 //! The commands of a session, and the lines that they stand for.
 
-ghost use Rattle.std.specs.Prelude.{◌≡◌, ◌≢◌, ℕ, ◌∷◌, ◌++◌, ◌≤◌, ◌+◌, length, codes, IfSome, IfNone};
+ghost use Rattle.std.specs.Prelude.{◌≡◌, ◌≢◌, ℕ, ◌∷◌, ◌++◌, ◌≤◌, ◌+◌, length, codes, IfSome};
+ghost use Rattle.std.specs.Prelude.{IfNone};
 ghost use Rattle.batch.specs.Text.{IsNumber, number, space};
 ghost use Rattle.line_words.specs.HexWords.{IsWord, hex8};
 ghost use Rattle.client_session.specs.Commands.{Means, is_immediate, line_of};

@@ -71,7 +71,7 @@ impl<'a, X: Setup> ExchangeSeat<'a, X> {
         self.shared.progress(&mut self.seat)
     }
 
-    /// Makes a call of the book, whose reply can be told once the seat is settled.
+    /// Makes a call of the book, whose reply can be told once the seat is synced.
     pub fn call<R: Threads + Wait + Sync>(
         &mut self,
         rt: &R,

@@ -1,6 +1,7 @@
 //! Lines from any reader, through a buffer of its own, with a limit on the calls of `read`.
 
-ghost use Rattle.std.specs.Prelude.{◌≡◌, ◌+◌, ◌-◌, ◌<◌, ◌≤◌, length, take, drop, [], Some, None, MatchResult, MatchOption, IfSome, IfNone, IfOk, IfErr};
+ghost use Rattle.std.specs.Prelude.{◌≡◌, ◌+◌, ◌-◌, ◌<◌, ◌≤◌, length, take, drop, [], Some, None};
+ghost use Rattle.std.specs.Prelude.{MatchResult, MatchOption, IfSome, IfNone, IfOk, IfErr};
 ghost use Rattle.std.specs.Io.KnownBytes.{IsAtEnd};
 ghost use Rattle.client_session.specs.Bytes.{PendingInput, TakesIn, HasLine, HasNoFeed, fuel};
 ghost use Rattle.client_session.specs.Asking.{GivesEachTime, StopsAsking};
@@ -8,8 +9,8 @@ ghost use Rattle.client_session.specs.Faults.{HasBroughtNothing, IsFaultAt};
 ghost use Rattle.client_session.specs.Steps.{IsFront, of_input};
 
 use crate::counted_read::CountedRead;
-use crate::pending_line::PendingLine;
 use crate::limits::{INPUT_BYTES, LINE_BYTES, MAX_READS};
+use crate::pending_line::PendingLine;
 use std::marker::Model;
 
 /// Why no line came.

@@ -8,8 +8,8 @@
 //! was written are their reply lines, in order. No reading of the progress is after an earlier one
 //! (`AreReadings`). Where entries may wait to be recorded, replies are held until theirs are, and
 //! told together. Where a fault ends the session, the commands before it were served. Where the
-//! writer fails or the record is broken, at most [`REPLY_BUFFER_BYTES`] bytes of their replies aren't told
-//! (`IsCutOff`, `IsBroken`). A reader that counts is asked at most a million times
+//! writer fails or the record is broken, at most [`REPLY_BUFFER_BYTES`] bytes of their replies
+//! aren't told (`IsCutOff`, `IsBroken`). A reader that counts is asked at most a million times
 //! (`AsksWithinLimit` of `specs/Asking.antt`).
 //!
 //! A [`Listener`] hears beside them what was said, and what of it is refused. What it tells is told
@@ -21,11 +21,11 @@ mod command;
 mod counted_read;
 mod exchange_seat;
 mod fault;
-mod pending_line;
 mod input;
 pub mod laws;
 mod limits;
 mod listener;
+mod pending_line;
 mod reply_buffer;
 pub mod reply_line;
 mod serving;
@@ -36,6 +36,6 @@ mod turns;
 pub use command::SessionCommand;
 pub use counted_read::{CountedRead, CountedReader};
 pub use fault::ServeFault;
-pub use limits::{COMMAND_ROOM, REPLY_BUFFER_BYTES, INPUT_BYTES, LINE_BYTES, MAX_READS};
+pub use limits::{COMMAND_ROOM, INPUT_BYTES, LINE_BYTES, MAX_READS, REPLY_BUFFER_BYTES};
 pub use listener::{Listener, NoListener};
 pub use serving::serve;

@@ -12,5 +12,5 @@ pub const MAX_READS: usize = 1_000_000;
 /// How many bytes the line of a command may have, without its line feed.
 pub const COMMAND_ROOM: usize = 43;
 
-/// How many bytes of reply lines a session holds at most: a hundred short lines, and a long one.
+/// How many bytes of reply lines a session buffers at most: a hundred short lines, and a long one.
 pub const REPLY_BUFFER_BYTES: usize = 6144;

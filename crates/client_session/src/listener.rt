@@ -19,8 +19,8 @@ pub trait Listener {
     fn on_lines(&mut self, text: &[u8])
         ensures { told self.new ≡ told self.old };
 
-    /// What was heard last is refused, and the reply line that says so is written. Of this refusal,
-    /// and of nothing else, something may be told now.
+    /// What the last lines asked is refused, and the reply line that says so is written. Of this
+    /// refusal, and of nothing else, something may be told now.
     fn on_refusal(&mut self, refusal: Refusal)
         ensures { Tells may_tell refusal (told self.old) (told self.new) };
 }

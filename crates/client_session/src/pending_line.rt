@@ -1,6 +1,7 @@
 use crate::command::SessionCommand;
 
-/// A line in front of the input, and what it commands, where it is a command's line.
+/// The first line of the input, which is answered next, and what it commands, where it is a
+/// command's line.
 #[derive(Clone, Copy)]
 pub(crate) struct PendingLine {
     /// How many bytes it has, without its line feed.

@@ -1,4 +1,4 @@
-//! Reply lines that are held until they can be told.
+//! Reply lines that are buffered until they can be written.
 
 ghost use Rattle.std.specs.Prelude.{◌≡◌, ◌≤◌, ◌+◌, ◌++◌, [], true, length};
 ghost use Rattle.line_words.specs.declared.limits.TheConstants.{LINE_ROOM};
@@ -10,8 +10,8 @@ use line_words::LINE_ROOM;
 use refusals::Refusal;
 use std::marker::Model;
 
-/// Reply lines that are held, at most [`REPLY_BUFFER_BYTES`] bytes of them, and the refusal that the last
-/// of them says, where it says one. They lie in the struct itself.
+/// Reply lines that are held, at most [`REPLY_BUFFER_BYTES`] bytes of them, and the refusal that
+/// the last of them says, where it says one. They lie in the struct itself.
 #[derive(Drop)]
 pub(crate) struct ReplyBuffer {
     bytes: [u8; REPLY_BUFFER_BYTES],

@@ -1,10 +1,12 @@
 //! The reply lines, with their line feeds. They are public for whoever serves sessions over
 //! something else than a reader and a writer.
 
-ghost use Rattle.std.specs.Prelude.{◌≡◌, [], ◌≤◌, ◌<◌, ◌+◌, ◌*◌, ◌++◌, length, flat_map, codes, IfSome};
+ghost use Rattle.std.specs.Prelude.{◌≡◌, [], ◌≤◌, ◌<◌, ◌+◌, ◌*◌, ◌++◌, length, flat_map, codes};
+ghost use Rattle.std.specs.Prelude.{IfSome};
 ghost use Rattle.refusals.specs.Refusals.{refusal_line};
 ghost use Rattle.client_session.specs.Steps.{CanBeTold};
-ghost use Rattle.client_session.specs.Replies.{cause_words, state_words, moved_words, ran_words, stopped_words, reply_line, progress_line, with_feed};
+ghost use Rattle.client_session.specs.Replies.{cause_words, state_words, moved_words, ran_words};
+ghost use Rattle.client_session.specs.Replies.{stopped_words, reply_line, progress_line, with_feed};
 
 use crate::sources::{of_book, of_run};
 use batch::{MAX_MODULES, MAX_TRANSFERS, MAX_WORDS};

@@ -1,6 +1,7 @@
 //! The session.
 
-ghost use Rattle.std.specs.Prelude.{◌≡◌, ◌<◌, ◌≤◌, ◌+◌, [], true, false, Some, IfSome, OnOk, OnErr, IfOk, IfErr, length};
+ghost use Rattle.std.specs.Prelude.{◌≡◌, ◌<◌, ◌≤◌, ◌+◌, [], true, false, Some, IfSome, OnOk, OnErr};
+ghost use Rattle.std.specs.Prelude.{IfOk, IfErr, length};
 ghost use Rattle.std.specs.Io.KnownBytes.{Appends};
 ghost use Rattle.byte_streams.specs.Writing.{IsCutShort};
 ghost use Rattle.line_words.specs.declared.limits.TheConstants.{LINE_ROOM};
@@ -9,7 +10,9 @@ ghost use Rattle.client_session.specs.Asking.{AsksWithinLimit};
 ghost use Rattle.client_session.specs.Bytes.{HasLine};
 ghost use Rattle.client_session.specs.Listening.{TellsOfRefusals};
 ghost use Rattle.client_session.specs.Seats.{seat_view};
-ghost use Rattle.client_session.specs.Sessions.{HasEnded, HoldsAtEnd, GoesThrough, IsAllRecorded, IsServed, cuts_off, fault_in, seat_back, fault_back};
+ghost use Rattle.client_session.specs.Sessions.{HasEnded, HoldsAtEnd, GoesThrough, IsAllRecorded};
+ghost use Rattle.client_session.specs.Sessions.{IsServed, cuts_off, fault_in, seat_back};
+ghost use Rattle.client_session.specs.Sessions.{fault_back};
 ghost use Rattle.client_session.specs.Commands.{is_immediate};
 ghost use Rattle.client_session.specs.Steps.{IsFront, AreTold, AreUntold, MayTell};
 ghost use Rattle.client_session.specs.declared.limits.TheConstants.{REPLY_BUFFER_BYTES, LINE_BYTES};
@@ -18,9 +21,9 @@ use crate::command::SessionCommand;
 use crate::counted_read::CountedRead;
 use crate::exchange_seat::ExchangeSeat;
 use crate::fault::ServeFault;
-use crate::pending_line::PendingLine;
 use crate::input::Input;
 use crate::listener::Listener;
+use crate::pending_line::PendingLine;
 use crate::reply_buffer::ReplyBuffer;
 use crate::reply_line::ReplyLine;
 use crate::setup::{Parts, Setup};
@@ -64,8 +67,8 @@ fn tell_refusal<H: Listener>(listener: &mut H, refusal: Option<Refusal>)
     }
 }
 
-/// Sees to it that all which the session has asked can be told, and then writes the lines that are
-/// held, together. The listener hears of the refusal that the last line says.
+/// Syncs the seat, and then writes the buffered lines together. The listener is called with the
+/// refusal that the last line says.
 fn send_replies<R: Wait + Clock, X: Setup, O: Write, H: Listener>(
     rt: &R,
     seat: &mut ExchangeSeat<'_, X>,
@@ -88,7 +91,7 @@ fn send_replies<R: Wait + Clock, X: Setup, O: Write, H: Listener>(
     Ok(())
 }
 
-/// Whether what the line in front commands is answered at once: it is quick, and the lines of a
+/// Whether what the pending line commands is answered at once: it is immediate, and the lines of a
 /// batch are there.
 fn is_at_once(input: &Input, command: Option<SessionCommand>) -> bool
     ensures { result ≡ true → IfSome command (λ c. is_immediate c ≡ true) }
@@ -100,7 +103,7 @@ fn is_at_once(input: &Input, command: Option<SessionCommand>) -> bool
     }
 }
 
-/// The line in front, where what it commands is answered at once.
+/// The pending line, where what it commands is answered at once.
 fn quick_front(input: &Input) -> Option<PendingLine>
     ensures front { IfSome result (IsFront input.now.pending) }
     ensures quick { IfSome result (λ front. IfSome front.command (λ c. is_immediate c ≡ true)) }
@@ -113,7 +116,7 @@ fn quick_front(input: &Input) -> Option<PendingLine>
     Some(PendingLine { length, command })
 }
 
-/// The line in front, which has this length. What it commands is read where it wasn't found before.
+/// The pending line, which has this length. What it commands is read where it wasn't found before.
 fn front_of(input: &Input, length: usize, found: Option<PendingLine>) -> PendingLine
     requires line { HasLine input.now.pending length × (length ≤ LINE_BYTES) }
     requires found { IfSome found (IsFront input.now.pending) }
@@ -128,8 +131,8 @@ fn front_of(input: &Input, length: usize, found: Option<PendingLine>) -> Pending
     }
 }
 
-/// Tells what is held, where no more is to be held before the next command. Else it gives that
-/// one's line.
+/// Sends the buffered lines, where no more are to be buffered before the next command. Else it
+/// gives that one's line.
 fn send_replies_if_due<R: Wait + Clock, X: Setup, O: Write, H: Listener>(
     rt: &R,
     seat: &mut ExchangeSeat<'_, X>,

@@ -1,21 +1,23 @@
 //! One command with the lines that belong to it.
 
-ghost use Rattle.std.specs.Prelude.{◌≡◌, ◌+◌, ◌<◌, ◌≤◌, length, take, [], Some, IfOk, IfErr, OnOk, MatchOption, MatchBool, true, false};
+ghost use Rattle.std.specs.Prelude.{◌≡◌, ◌+◌, ◌<◌, ◌≤◌, length, take, [], Some, IfOk, IfErr, OnOk};
+ghost use Rattle.std.specs.Prelude.{MatchOption, MatchBool, true, false};
 ghost use Rattle.client_session.specs.Asking.{GivesOrStops};
 ghost use Rattle.client_session.specs.Bytes.{HasLine, fuel};
 ghost use Rattle.client_session.specs.Turns.{SessionGoesOn};
 ghost use Rattle.client_session.specs.Sessions.{BeginsBatch};
-ghost use Rattle.client_session.specs.Steps.{IsFront, StandsAlone, LinesTaken, LinesStopped, TurnTaken, TurnFails};
+ghost use Rattle.client_session.specs.Steps.{IsFront, StandsAlone, LinesTaken, LinesStopped};
+ghost use Rattle.client_session.specs.Steps.{TurnTaken, TurnFails};
 
 use crate::answering::{answer, submit};
 use crate::command::SessionCommand;
 use crate::counted_read::CountedRead;
 use crate::exchange_seat::ExchangeSeat;
 use crate::fault::ServeFault;
-use crate::pending_line::PendingLine;
 use crate::input::Input;
 use crate::limits::{INPUT_BYTES, LINE_BYTES, MAX_READS};
 use crate::listener::Listener;
+use crate::pending_line::PendingLine;
 use crate::reply_line::ReplyLine;
 use crate::setup::Setup;
 use batch::MAX_TRANSFERS;

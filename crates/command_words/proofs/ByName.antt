@@ -1,5 +1,6 @@
 -- A program with one command alone finds what the whole program does, where the arguments name it.
-use Rattle.std.proofs.Common.{◌≡◌, ◌∙◌, ◌&&◌, ◌<◌, List, [], ◌∷◌, Bool, true, false, not, Option, Some, Result, Ok, Err, IfOk, IfSome, OnSome, String, if◌then◌else◌, codes, drop, find, fold, get_or, is_some, length, option_map, string_bytes, bytes_eq, refl, ap, ap₂, sym, arith}
+use Rattle.std.proofs.Common.{◌≡◌, ◌∙◌, ◌&&◌, ◌<◌, List, [], ◌∷◌, Bool, true, false, not, Option, Some, Result, Ok, Err, IfOk, IfSome, OnSome, String, if◌then◌else◌, codes, drop, find, fold, get_or}
+use Rattle.std.proofs.Common.{is_some, length, option_map, string_bytes, bytes_eq, refl, ap, ap₂, sym, arith}
 use Rattle.std.specs.Option.{option_map_or}
 use Rattle.std.specs.Result.{result_ok}
 use Rattle.clap.specs.Words.{App, FailsBy, HasMatchesOf, Shape, Text, Kinds, built, fault_of, is_simple_and_free, subcommand_of, subcommand_rows_of}
@@ -22,7 +23,8 @@ entering : (rules : List Rule) (names : Names) (word : Text) (words : List Text)
     → walk rules names nothing_held (word ∷ words) ≡ record (walk_from nothing_held) { stopped = Some (word, words) }
 unfolding walked
 entering rules names word words met =
-    ap (λ (o : Option Text). let step = subcommand_or_other rules o idle 1 word nothing_held in fold (walked rules names) (after_step rules word (walk_from nothing_held) step.0 step.1) words) met
+    ap (λ (o : Option Text). let step = subcommand_or_other rules o idle 1 word nothing_held in fold (walked rules names)
+    (after_step rules word (walk_from nothing_held) step.0 step.1) words) met
     ∙ sym (walk_stopped rules names (walk_from nothing_held) word [] words)
 
 -- and nothing is at fault in it, unless it is that of help
@@ -30,9 +32,11 @@ faultless : (s : Shape) (names : Names) (word : Text) (words : List Text) → su
     → walk_fault s names (walk_from nothing_held) (word ∷ words) ≡ []
 unfolding walk_fault walked
 faultless s names word words met other =
-    ap (λ (o : Option Text). let step = subcommand_or_other s.rules o idle 1 word nothing_held in or_else (or_else (other_fault s o word nothing_held) (step_fault s 1 step.0 step.1))
+    ap (λ (o : Option Text). let step = subcommand_or_other s.rules o idle 1 word nothing_held in or_else
+    (or_else (other_fault s o word nothing_held) (step_fault s 1 step.0 step.1))
     (walk_fault s names (after_step s.rules word (walk_from nothing_held) step.0 step.1) words)) met
-    ∙ ap (λ (b : Bool). or_else (or_else (if b && not s.disable_help_subcommand then DisplayHelp ∷ InvalidSubcommand ∷ [] else []) []) (walk_fault s names (record (walk_from nothing_held) { stopped = Some (word, []) }) words)) other
+    ∙ ap (λ (b : Bool). or_else (or_else (if b && not s.disable_help_subcommand then DisplayHelp ∷ InvalidSubcommand ∷ [] else []) [])
+    (walk_fault s names (record (walk_from nothing_held) { stopped = Some (word, []) }) words)) other
     ∙ stopped_fault s names (walk_from nothing_held) (word, []) words
 
 -- the subcommand of a built command that a word names
@@ -46,13 +50,16 @@ faults_after s sub words =
     (or_else (defaults_fault [] s.rules) (check_fault s (finished s.rules nothing_held) (is_some (option_map (λ s. rows_at s words) sub))))
 
 -- what a command finds, where the first word names its subcommand
-reached : (a : App) (word : Text) (words given : List Text) → given ≡ word ∷ words → subcommand_met (names_of a) idle word ≡ Some word → bytes_eq word (codes "help") ≡ false
+reached : (a : App) (word : Text) (words given : List Text) → given ≡ word ∷ words → subcommand_met (names_of a) idle word ≡ Some word
+    → bytes_eq word (codes "help") ≡ false
     → (built_fault a nothing_held given ≡ faults_after a.top (below a word) words)
     × (entered a (stop_after a.top.rules (names_of a) given) ≡ option_map (λ s. rows_at s words) (below a word))
 reached a word words given is met other =
     let end = entering a.top.rules (names_of a) word words met in
-    let faults = ap₂ (λ (w : Walk) (k : Kinds). or_else k (or_else (entered_fault a w.stopped) (or_else (settle_fault a.top.rules a.top.args_override_self w.held)
-    (or_else (defaults_fault (settled a.top.rules w.held).rows a.top.rules) (check_fault a.top (finished a.top.rules w.held) (is_some (entered a w.stopped)))))))
+    let faults = ap₂
+    (λ (w : Walk) (k : Kinds). or_else k (or_else (entered_fault a w.stopped) (or_else (settle_fault a.top.rules a.top.args_override_self w.held)
+    (or_else (defaults_fault (settled a.top.rules w.held).rows a.top.rules)
+    (check_fault a.top (finished a.top.rules w.held) (is_some (entered a w.stopped)))))))
     end (faultless a.top (names_of a) word words met other) in
     (ap (built_fault a nothing_held) is ∙ faults, ap (λ ws. entered a (stop_after a.top.rules (names_of a) ws)) is ∙ ap (λ (w : Walk). entered a w.stopped) end)
 
@@ -79,11 +86,15 @@ alike name arguments is =
     let words = drop 2 arguments in
     let (free, other, met, met_too, same) = agree name in
     let one = reached (built (alone name)) (command_word name) words (drop 1 arguments) is met other in
-    let all = reached (built program) (command_word name) words (drop 1 arguments) is met_too other in
-    (one.0 ∙ ap (λ (sub : Option Shape). faults_after (built program).top sub words) same ∙ sym all.0, one.1 ∙ ap (option_map (λ s. rows_at s words)) same ∙ sym all.1)
+    let all = reached (built program) (command_word name) words (drop 1 arguments) is met_too other in (
+      one.0 ∙ ap (λ (sub : Option Shape). faults_after (built program).top sub words) same ∙ sym all.0,
+      one.1 ∙ ap (option_map (λ s. rows_at s words)) same
+          ∙ sym all.1,
+    )
 
 -- and what the one matches, the whole program does
-pub by_name : (a : App) (name : CommandName) (arguments : List Text) (r : Result ArgMatches Error) → a ≡ alone name → drop 1 arguments ≡ command_word name ∷ drop 2 arguments
+pub by_name : (a : App) (name : CommandName) (arguments : List Text) (r : Result ArgMatches Error) → a ≡ alone name → drop 1 arguments
+    ≡ command_word name ∷ drop 2 arguments
     → IfOk r (HasMatchesOf a arguments) → (is_simple_and_free a ≡ true → FailsBy (fault_of a arguments) r)
     → IfSome (result_ok r) (λ found. subcommand_rows_of found ≡ subcommand_of program arguments) × OnSome (result_ok r) (IsTaken arguments)
 unfolding faults_of
@@ -94,7 +105,8 @@ by_name a name arguments (Ok found) is behind has fails =
     ((has (both _ _ free).0).1 ∙ ap (λ (x : App). subcommand_of x arguments) is ∙ same.1, sym (ap (λ (x : App). fault_of x arguments) is ∙ same.0) ∙ fails free)
 
 -- the word of a command after the program's name
-pub word_after : {Z : Type 0} (arguments : List (String Z)) (word : String Z) (name : CommandName) → 1 < length arguments → ((d : String Z) → word ≡ get_or arguments 1 d) → command_word name ≡ string_bytes word
+pub word_after : {Z : Type 0} (arguments : List (String Z)) (word : String Z) (name : CommandName) → 1 < length arguments
+    → ((d : String Z) → word ≡ get_or arguments 1 d) → command_word name ≡ string_bytes word
     → drop 1 (texts_of arguments) ≡ command_word name ∷ drop 2 (texts_of arguments)
 word_after [] word name long at calls = absurd (omega arith)
 word_after (x ∷ []) word name long at calls = absurd (omega arith)

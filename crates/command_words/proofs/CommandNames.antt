@@ -17,7 +17,8 @@ listed Plan = (omega arith, refl)
 listed name = (omega arith, refl)
 
 -- a word that calls none in the list calls none
-pub calls_none : (word : List ℕ) → ((k : ℕ) → k < length commands → command_word (get_or commands k Plan) ≢ word) → (name : CommandName) → command_word name ≢ word
+pub calls_none : (word : List ℕ) → ((k : ℕ) → k < length commands → command_word (get_or commands k Plan) ≢ word) → (name : CommandName)
+    → command_word name ≢ word
 calls_none word none name is =
     let (below, at) = listed name in
     none (place (command_word name)) below (ap command_word at ∙ is)

@@ -37,11 +37,14 @@ no_value : (o : Option Row) → option_and_then (λ r. slice_get r.values 0) o �
 no_value None none = refl
 no_value (Some row) none = rw none refl
 
-no_numeral : (o : Option Text) (last n : ℕ) → o ≡ None → MatchOption o ⊥ (λ text. IsNumeral 10 (without_leading_plus text) × (n ≡ digits_value 10 (without_leading_plus text)) × (n ≤ last)) → ⊥
+no_numeral : (o : Option Text) (last n : ℕ) → o ≡ None
+    → MatchOption o ⊥ (λ text. IsNumeral 10 (without_leading_plus text) × (n ≡ digits_value 10 (without_leading_plus text)) × (n ≤ last)) → ⊥
 no_numeral None last n none has = has
 no_numeral (Some text) last n none has = absurd (cc)
 
-one_value : (o : Option Text) (last m n : ℕ) → MatchOption o ⊥ (λ text. IsNumeral 10 (without_leading_plus text) × (m ≡ digits_value 10 (without_leading_plus text)) × (m ≤ last)) → MatchOption o ⊥ (λ text. IsNumeral 10 (without_leading_plus text) × (n ≡ digits_value 10 (without_leading_plus text)) × (n ≤ last)) → m ≡ n
+one_value : (o : Option Text) (last m n : ℕ)
+    → MatchOption o ⊥ (λ text. IsNumeral 10 (without_leading_plus text) × (m ≡ digits_value 10 (without_leading_plus text)) × (m ≤ last))
+    → MatchOption o ⊥ (λ text. IsNumeral 10 (without_leading_plus text) × (n ≡ digits_value 10 (without_leading_plus text)) × (n ≤ last)) → m ≡ n
 one_value None last m n a b = absurd a
 one_value (Some text) last m n a b = a.1 ∙ sym b.1
 
@@ -81,20 +84,25 @@ sourced rows (source.Plan a) (source.Text b) x y = absurd (not_both _ b x.0 y.0)
 sourced rows (source.Text a) (source.Plan b) x y = absurd (not_both _ a y.0 x.0)
 sourced rows (source.Text a) (source.Text b) x y = ap source.Text (text _ a b x.0 y.0)
 
-same_file : (a b : Text) (r s x y : Bool) → a ≡ b → r ≡ s → x ≡ y → ◌≡◌ {A = RecordFile} (record { name = a; resumes = r; syncs = x }) (record { name = b; resumes = s; syncs = y })
+same_file : (a b : Text) (r s x y : Bool) → a ≡ b → r ≡ s → x ≡ y → ◌≡◌ {A = RecordFile} (record { name = a; resumes = r; syncs = x })
+    (record { name = b; resumes = s; syncs = y })
 same_file a b r s x y names resumes syncs = rw (names, resumes, syncs) refl
 
 recorded : (rows : List Row) (a b : Option RecordFile) → HasRecord rows a → HasRecord rows b → a ≡ b
 recorded rows None None x y = refl
 recorded rows None (Some b) x y = absurd (not_both _ b.name x.0 y.0)
 recorded rows (Some a) None x y = absurd (not_both _ a.name y.0 x.0)
-recorded rows (Some a) (Some b) x y = ap Some (same_file a.name b.name a.resumes b.resumes a.syncs b.syncs (text _ a.name b.name x.0 y.0) (flag _ a.resumes b.resumes x.1 y.1) (flag _ a.syncs b.syncs x.2 y.2))
+recorded rows (Some a) (Some b) x y =
+    ap Some (same_file a.name b.name a.resumes b.resumes a.syncs b.syncs (text _ a.name b.name x.0 y.0) (flag _ a.resumes b.resumes x.1 y.1)
+    (flag _ a.syncs b.syncs x.2 y.2))
 
-same_rack : (s t : Text) (i j o p : Option Text) (r q : Option RecordFile) → s ≡ t → i ≡ j → r ≡ q → o ≡ p → ◌≡◌ {A = SharedRack} (record { shape = s; image = i; record_out = r; image_out = o }) (record { shape = t; image = j; record_out = q; image_out = p })
+same_rack : (s t : Text) (i j o p : Option Text) (r q : Option RecordFile) → s ≡ t → i ≡ j → r ≡ q → o ≡ p
+    → ◌≡◌ {A = SharedRack} (record { shape = s; image = i; record_out = r; image_out = o }) (record { shape = t; image = j; record_out = q; image_out = p })
 same_rack s t i j o p r q shapes images records outs = rw (shapes, images, records, outs) refl
 
 racked : (rows : List Row) (a b : SharedRack) → HasRack rows a → HasRack rows b → a ≡ b
-racked rows a b x y = same_rack a.shape b.shape a.image b.image a.image_out b.image_out a.record_out b.record_out (text _ a.shape b.shape x.shape y.shape) (sym x.image ∙ y.image) (recorded rows a.record_out b.record_out x.recorded y.recorded) (sym x.out ∙ y.out)
+racked rows a b x y = same_rack a.shape b.shape a.image b.image a.image_out b.image_out a.record_out b.record_out (text _ a.shape b.shape x.shape y.shape)
+    (sym x.image ∙ y.image) (recorded rows a.record_out b.record_out x.recorded y.recorded) (sym x.out ∙ y.out)
 
 -- ---- jobs
 
@@ -105,14 +113,37 @@ one_job rows (Texts (Draw f s r)) (Texts (Draw g t q)) same x y = rw (text _ f g
 one_job rows (Texts (Draw f s r)) (Texts (Prices g t)) same x y = absurd (x.3 y.3)
 one_job rows (Texts (Prices f s)) (Texts (Prices g t)) same x y = rw (text _ f g x.0 y.0, text _ s t x.1 y.1) refl
 one_job rows (Texts (Prices f s)) (Texts (Draw g t q)) same x y = absurd (y.3 x.3)
-one_job rows (Texts (Switch f s i d w)) (Texts (Switch g t j e v)) same x y = rw (text _ f g x.0 y.0, sourced rows s t x.1 y.1, sym x.2 ∙ y.2, two rows d e x.3 y.3, workers rows w v x.4 y.4) refl
-one_job rows (Texts (Orders f s m w)) (Texts (Orders g t n v)) same x y = rw (text _ f g x.0 y.0, sourced rows s t x.1 y.1, numeral _ _ rows m n x.2 y.2, workers rows w v x.3 y.3) refl
+one_job rows (Texts (Switch f s i d w)) (Texts (Switch g t j e v)) same x y =
+    rw (text _ f g x.0 y.0, sourced rows s t x.1 y.1, sym x.2 ∙ y.2, two rows d e x.3 y.3, workers rows w v x.4 y.4) refl
+one_job rows (Texts (Orders f s m w)) (Texts (Orders g t n v)) same x y = rw (
+  text _ f g x.0 y.0,
+  sourced rows s t x.1 y.1,
+  numeral _ _ rows m n x.2 y.2,
+  workers rows w v x.3 y.3,
+) refl
 one_job rows (Texts (Direct f)) (Texts (Direct g)) same x y = rw (text _ f g x y) refl
-one_job rows (Texts (Apply s f i w)) (Texts (Apply t g j v)) same x y = rw (text _ s t x.0 y.0, text _ f g x.1 y.1, text _ i j x.2 y.2, workers rows w v x.3 y.3) refl
-one_job rows (Texts (Run s f o i w)) (Texts (Run t g p j v)) same x y = rw (text _ s t x.0 y.0, text _ f g x.1 y.1, sourced rows o p x.2 y.2, sym x.3 ∙ y.3, workers rows w v x.4 y.4) refl
-one_job rows (Texts (Replay s f i n)) (Texts (Replay t g j m)) same x y = rw (sym x.0 ∙ y.0, text _ f g x.1 y.1, sym x.2 ∙ y.2, numeral _ _ rows n m x.3 y.3) refl
+one_job rows (Texts (Apply s f i w)) (Texts (Apply t g j v)) same x y =
+    rw (text _ s t x.0 y.0, text _ f g x.1 y.1, text _ i j x.2 y.2, workers rows w v x.3 y.3) refl
+one_job rows (Texts (Run s f o i w)) (Texts (Run t g p j v)) same x y = rw (
+  text _ s t x.0 y.0,
+  text _ f g x.1 y.1,
+  sourced rows o p x.2 y.2,
+  sym x.3 ∙ y.3,
+  workers rows w v x.4 y.4,
+) refl
+one_job rows (Texts (Replay s f i n)) (Texts (Replay t g j m)) same x y = rw (sym x.0 ∙ y.0, text _ f g x.1 y.1, sym x.2 ∙ y.2, numeral _ _ rows n m x.3 y.3)
+    refl
 one_job rows (Ports (Drive f p o s i k l w)) (Ports (Drive g q r t j m n v)) same x y =
-    rw (text _ f g x.0 y.0, text _ p q x.1 y.1, sym x.2 ∙ y.2, sourced rows s t x.3 y.3, sym x.4 ∙ y.4, same_Some k m (numeral _ _ rows (Some k) (Some m) x.5 y.5), flag _ l n x.6 y.6, workers rows w v x.7 y.7) refl
+    rw (
+      text _ f g x.0 y.0,
+      text _ p q x.1 y.1,
+      sym x.2 ∙ y.2,
+      sourced rows s t x.3 y.3,
+      sym x.4 ∙ y.4,
+      same_Some k m (numeral _ _ rows (Some k) (Some m) x.5 y.5),
+      flag _ l n x.6 y.6,
+      workers rows w v x.7 y.7,
+    ) refl
 one_job rows (Ports C004) (Ports C004) same x y = refl
 one_job rows (Sessions r (Serve s w)) (Sessions q (Serve t v)) same x y = rw (racked rows r q x.0 y.0, text _ s t x.1.0 y.1.0, workers rows w v x.2 y.2) refl
 one_job rows (Sessions r (Host s w)) (Sessions q (Host t v)) same x y = rw (racked rows r q x.0 y.0, text _ s t x.1.0 y.1.0, workers rows w v x.2 y.2) refl
@@ -125,9 +156,11 @@ one_job rows a b same x y = absurd (let bad = same in cc)
 same_request : (a b : Job) (q r : Bool) → a ≡ b → q ≡ r → ◌≡◌ {A = Request} (record { job = a; is_quiet = q }) (record { job = b; is_quiet = r })
 same_request a b q r jobs quiet = rw (jobs, quiet) refl
 
-pub one_found : (found : Option (Text × List Row)) (a b : Request) → MatchOption found ⊥ (λ p. IsRequest p.0 p.1 a) → MatchOption found ⊥ (λ p. IsRequest p.0 p.1 b) → a ≡ b
+pub one_found : (found : Option (Text × List Row)) (a b : Request) → MatchOption found ⊥ (λ p. IsRequest p.0 p.1 a)
+    → MatchOption found ⊥ (λ p. IsRequest p.0 p.1 b) → a ≡ b
 one_found None a b x y = absurd x
-one_found (Some p) a b x y = same_request a.job b.job a.is_quiet b.is_quiet (one_job p.1 a.job b.job (same_word _ _ (sym x.calls ∙ y.calls)) x.job y.job) (flag _ a.is_quiet b.is_quiet x.quiet y.quiet)
+one_found (Some p) a b x y = same_request a.job b.job a.is_quiet b.is_quiet (one_job p.1 a.job b.job (same_word _ _ (sym x.calls ∙ y.calls)) x.job y.job)
+    (flag _ a.is_quiet b.is_quiet x.quiet y.quiet)
 
 -- there is one request at most
 pub one_request : (words : List Text) (a b : Request) → AskFor words a → AskFor words b → a ≡ b

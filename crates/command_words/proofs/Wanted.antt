@@ -11,7 +11,8 @@ use Rattle.command_words.specs.declared.faults.UsageError.{UsageError}
 use Rattle.command_words.specs.declared.faults.UsageError.TheVariants.{Memory}
 
 -- what is lacking of a part is lacking of the whole
-pub still_lacks : {X : Type 0} (is : X → Type 0) (lack : UsageError) (r : Result X UsageError) → IsErrAnd r (λ e. e ≡ lack) → ((x : X) → is x → lack ≡ Memory) → IsReading is r
+pub still_lacks : {X : Type 0} (is : X → Type 0) (lack : UsageError) (r : Result X UsageError) → IsErrAnd r (λ e. e ≡ lack) → ((x : X) → is x → lack ≡ Memory)
+    → IsReading is r
 still_lacks is lack (Ok x) made why = absurd made
 still_lacks is lack (Err e) made why = λ x has. made ∙ why x has
 

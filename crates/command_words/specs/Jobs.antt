@@ -1,14 +1,20 @@
 -- The job that the arguments of the command line name.
-use Rattle.std.specs.Prelude.{◌≡◌, ◌≢◌, ◌⊎◌, ◌↔◌, ℕ, ◌≤◌, List, [], ◌∷◌, ◌++◌, Some, None, String, codes, length, map, find, flat_map, string_bytes, Option, All, AllPairs, IsTrue, Bool, true, false, not, if◌then◌else◌, option_and_then, option_map, option_to_list, MatchOption, Result, Ok, Err, ⊤}
+use Rattle.std.specs.Prelude.{◌≡◌, ◌≢◌, ◌⊎◌, ◌↔◌, ℕ, ◌≤◌, List, [], ◌∷◌, ◌++◌, Some, None, String}
+use Rattle.std.specs.Prelude.{codes, length, map, find, flat_map, string_bytes, Option, All}
+use Rattle.std.specs.Prelude.{AllPairs, IsTrue, Bool, true, false, not, if◌then◌else◌}
+use Rattle.std.specs.Prelude.{option_and_then, option_map, option_to_list, MatchOption, Result, Ok}
+use Rattle.std.specs.Prelude.{Err, ⊤}
 use Rattle.std.specs.Str.{bytes_eq}
 use Rattle.std.specs.Str.Parse.{IsNumeral, digits_value, without_leading_plus}
 use Rattle.batch.specs.Numbers.{line_feed}
-use Rattle.clap.specs.Words.{Row, Text, Kinds, IsAmong, all_of, fault_of, first_of, found_of, one_of, rows_of, subcommand_of}
+use Rattle.clap.specs.Words.{Row, Text, Kinds, IsAmong, all_of, fault_of, first_of, found_of}
+use Rattle.clap.specs.Words.{one_of, rows_of, subcommand_of}
 use Rattle.clap.specs.declared.parser.matches.ArgMatches.{ArgMatches}
 use Rattle.clap.specs.declared.parser.matches.ValueSource.TheVariants.{CommandLine}
 use Rattle.clap.specs.Values.{kind_of}
 use Rattle.clap.specs.declared.error.Error.{Error}
-use Rattle.clap.specs.declared.error.kind.ErrorKind.TheVariants.{DisplayHelp, DisplayVersion, OutOfMemory}
+use Rattle.clap.specs.declared.error.kind.ErrorKind.TheVariants.{DisplayHelp, DisplayVersion}
+use Rattle.clap.specs.declared.error.kind.ErrorKind.TheVariants.{OutOfMemory}
 use Rattle.exchange_limits.specs.declared.limits.TheConstants.{MAX_WORKERS}
 use Rattle.plan_answers.specs.declared.source.Planning.{Planning}
 use Rattle.plan_answers.specs.declared.source.Planning.TheVariants as planning
@@ -21,7 +27,9 @@ use Rattle.command_words.specs.declared.uses.FileUse.{FileUse}
 use Rattle.command_words.specs.declared.jobs.Job.{Job}
 use Rattle.command_words.specs.declared.jobs.Job.TheVariants.{Texts, Ports, Sessions}
 use Rattle.command_words.specs.declared.jobs.TextJob.{TextJob}
-use Rattle.command_words.specs.declared.jobs.TextJob.TheVariants.{Plan, Check, Draw, Prices, Switch, Orders, Direct, Apply, Run, Replay}
+use Rattle.command_words.specs.declared.jobs.TextJob.TheVariants.{Plan, Check, Draw, Prices, Switch}
+use Rattle.command_words.specs.declared.jobs.TextJob.TheVariants.{Orders, Direct, Apply, Run}
+use Rattle.command_words.specs.declared.jobs.TextJob.TheVariants.{Replay}
 use Rattle.command_words.specs.declared.jobs.PortJob.TheVariants.{Drive, C004}
 use Rattle.command_words.specs.declared.jobs.SessionJob.{SessionJob}
 use Rattle.command_words.specs.declared.jobs.SessionJob.TheVariants.{Serve, Host, Talk}
@@ -117,7 +125,7 @@ name_of (Texts (Draw batch schedule settings)) = name.Draw
 name_of (Texts (Prices batch schedule)) = name.Draw
 name_of (Texts (Switch batch source wiring has_two workers)) = name.Switch
 name_of (Texts (Orders batch source of_module workers)) = name.Orders
-name_of (Ports (Drive batch port port_b source wiring first goes_on workers)) = name.Drive
+name_of (Ports (Drive batch port port_b source wiring first_setting goes_on workers)) = name.Drive
 name_of (Ports C004) = name.C004
 name_of (Texts (Direct moves)) = name.Direct
 name_of (Texts (Apply shape batch image workers)) = name.Apply
@@ -125,7 +133,7 @@ name_of (Texts (Run shape batch source image workers)) = name.Run
 name_of (Sessions rack (Serve scripts workers)) = name.Serve
 name_of (Sessions rack (Host clients workers)) = name.Host
 name_of (Sessions rack Talk) = name.Talk
-name_of (Texts (Replay shape recorded image first)) = name.Replay
+name_of (Texts (Replay shape recorded image first_entries)) = name.Replay
 
 -- what the arguments and options of its command say of a job
 abbrev pub HasJob : List Row → Job → Type 0
@@ -145,11 +153,11 @@ HasJob rows (Texts (Switch batch source wiring has_two workers)) =
 HasJob rows (Texts (Orders batch source of_module workers)) =
     HasText (codes "BATCH") rows batch × HasSource rows source
     × HasNumeral (codes "module") LAST_MODULE rows of_module × HasWorkers rows workers
-HasJob rows (Ports (Drive batch port port_b source wiring first goes_on workers)) =
+HasJob rows (Ports (Drive batch port port_b source wiring first_setting goes_on workers)) =
     HasText (codes "BATCH") rows batch × HasText (codes "PORT") rows port
     × HasOption (codes "PORT_B") rows port_b × HasSource rows source
     × HasOption (codes "wiring") rows wiring
-    × HasNumeral (codes "from") MAX_NUMBER rows (Some first)
+    × HasNumeral (codes "from") MAX_NUMBER rows (Some first_setting)
     × (IsTrue goes_on ↔ IsGiven (codes "go-on") rows) × HasWorkers rows workers
 HasJob rows (Ports C004) = ⊤
 HasJob rows (Texts (Direct moves)) = HasText (codes "MOVES") rows moves
@@ -164,9 +172,10 @@ HasJob rows (Sessions rack (Serve scripts workers)) =
 HasJob rows (Sessions rack (Host clients workers)) =
     HasRack rows rack × HasServed (codes "CLIENT") rows clients × HasWorkers rows workers
 HasJob rows (Sessions rack Talk) = HasRack rows rack
-HasJob rows (Texts (Replay shape recorded image first)) =
+HasJob rows (Texts (Replay shape recorded image first_entries)) =
     HasOption (codes "shape") rows shape × HasText (codes "RECORD") rows recorded
-    × HasOption (codes "image") rows image × HasNumeral (codes "first") MAX_NUMBER rows first
+    × HasOption (codes "image") rows image
+    × HasNumeral (codes "first") MAX_NUMBER rows first_entries
 
 -- a job of this command, as the rows have it
 abbrev pub IsJob : CommandName → List Row → Job → Type 0
@@ -206,9 +215,9 @@ IsWithinLimits job = ⊤
 abbrev pub input_name : Text
 input_name = codes "-"
 
--- What a job's files are for, in the order in which they are read: the image with whose words a rack
--- begins; the batch, the moves or the record; the schedule, or the image of `apply`; the wiring of a
--- board; the scripts of sessions.
+-- What a job's files are for, in the order in which they are read: the image with whose words a
+-- rack begins; the batch, the moves or the record; the schedule, or the image of `apply`; the
+-- wiring of a board; the scripts of sessions.
 pub record Files (A : Type 0) : Type 0 where
   pub image : Option A
   pub list : Option A
@@ -265,18 +274,19 @@ text_files (Orders batch source of_module workers) = of_list None batch (schedul
 text_files (Direct moves) = of_list None moves None None
 text_files (Apply shape batch image workers) = of_list None batch (Some image) None
 text_files (Run shape batch source image workers) = of_list image batch (schedule_in source) None
-text_files (Replay shape recorded image first) = of_list image recorded None None
+text_files (Replay shape recorded image first_entries) = of_list image recorded None None
 
 abbrev pub files_of : Job → Files Text
 files_of (Texts job) = text_files job
-files_of (Ports (Drive batch port port_b source wiring first goes_on workers)) =
+files_of (Ports (Drive batch port port_b source wiring first_setting goes_on workers)) =
     of_list None batch (schedule_in source) wiring
 files_of (Ports C004) = scripts_on None []
 files_of (Sessions rack job) = scripts_on rack.image (scripts_of job)
 
 -- a job hears standard input itself: `c004`, `talk`, and `drive` where it waits for lines
 abbrev pub hears_input : Job → Bool
-hears_input (Ports (Drive batch port port_b source wiring first goes_on workers)) = not goes_on
+hears_input (Ports (Drive batch port port_b source wiring first_setting goes_on workers)) =
+    not goes_on
 hears_input (Ports C004) = true
 hears_input (Sessions rack Talk) = true
 hears_input job = false
@@ -306,7 +316,7 @@ port_files port =
 
 -- the files beside those of `files_of` that a job reads or writes
 abbrev pub files_beside : Job → List FileUse
-files_beside (Ports (Drive batch port port_b source wiring first goes_on workers)) =
+files_beside (Ports (Drive batch port port_b source wiring first_setting goes_on workers)) =
     flat_map port_files (port ∷ option_to_list port_b)
 files_beside (Sessions rack job) = kept_files rack ++ flat_map client_files (live_names job)
 files_beside job = []

@@ -1,7 +1,8 @@
 -- The commands of the program, as clap reads them.
 use Rattle.std.specs.Prelude.{◌≡◌, ℕ, List, [], ◌∷◌, Some, codes, pos, true, false}
 use Rattle.std.specs.List.{fold}
-use Rattle.clap.specs.Words.{App, Rule, app_of, new_app, new_rule, rule_of, with_rule, with_subcommand}
+use Rattle.clap.specs.Words.{App, Rule, app_of, new_app, new_rule, rule_of, with_rule}
+use Rattle.clap.specs.Words.{with_subcommand}
 use Rattle.clap.specs.declared.builder.arg.Arg.{Arg}
 use Rattle.clap.specs.declared.builder.command.Command.{Command}
 use Rattle.clap.specs.declared.builder.command.Command.TheViews.{out-Command as fields_of}
@@ -9,9 +10,21 @@ use Rattle.clap.specs.declared.builder.action.ArgAction.TheVariants.{SetTrue}
 use Rattle.clap.specs.declared.builder.value_parser.ValueParser.TheVariants as parser
 use Rattle.exchange_limits.specs.declared.limits.TheConstants.{MAX_WORKERS}
 use Rattle.command_words.specs.declared.commands.Argument.{Argument}
-use Rattle.command_words.specs.declared.commands.Argument.TheVariants.{Shape, File, Batch, Schedule, Port, PortB, Moves, Image, Record, Scripts, Clients, Shaped, ImageIn, RecordOut, Resume, Sync, ImageOut, Settings, Prices, Scheduled, Wiring, Switches, FromSetting, FirstEntries, Module, Steady, GoOn, Workers, Quiet}
+use Rattle.command_words.specs.declared.commands.Argument.TheVariants.{Shape, File, Batch, Schedule}
+use Rattle.command_words.specs.declared.commands.Argument.TheVariants.{Port, PortB, Moves, Image}
+use Rattle.command_words.specs.declared.commands.Argument.TheVariants.{Record, Scripts, Clients}
+use Rattle.command_words.specs.declared.commands.Argument.TheVariants.{Shaped, ImageIn, RecordOut}
+use Rattle.command_words.specs.declared.commands.Argument.TheVariants.{Resume, Sync, ImageOut}
+use Rattle.command_words.specs.declared.commands.Argument.TheVariants.{Settings, Prices, Scheduled}
+use Rattle.command_words.specs.declared.commands.Argument.TheVariants.{Wiring, Switches}
+use Rattle.command_words.specs.declared.commands.Argument.TheVariants.{FromSetting, FirstEntries}
+use Rattle.command_words.specs.declared.commands.Argument.TheVariants.{Module, Steady, GoOn}
+use Rattle.command_words.specs.declared.commands.Argument.TheVariants.{Workers, Quiet}
 use Rattle.command_words.specs.declared.commands.CommandName.{CommandName}
-use Rattle.command_words.specs.declared.commands.CommandName.TheVariants.{Plan, Check, Draw, Switch, Orders, Drive, C004, Direct, Apply, Run, Serve, Host, Talk, Replay}
+use Rattle.command_words.specs.declared.commands.CommandName.TheVariants.{Plan, Check, Draw, Switch}
+use Rattle.command_words.specs.declared.commands.CommandName.TheVariants.{Orders, Drive, C004}
+use Rattle.command_words.specs.declared.commands.CommandName.TheVariants.{Direct, Apply, Run, Serve}
+use Rattle.command_words.specs.declared.commands.CommandName.TheVariants.{Host, Talk, Replay}
 use Rattle.command_words.specs.declared.limits.TheConstants.{LAST_MODULE, MAX_CLIENTS, MAX_NUMBER}
 
 -- ---- what a command takes
@@ -32,7 +45,9 @@ option id = record (new_rule id) { long = Some id; value_names = 1 }
 
 -- an option with a number from the one to the other, as `--module M`, which may be left out
 abbrev pub number_option : List ℕ → ℕ → ℕ → Rule
-number_option id low high = record (option id) { parser = Some (parser.Signed (pos low) (pos high)) }
+number_option id low high = record (option id) {
+  parser = Some (parser.Signed (pos low) (pos high));
+}
 
 -- an option with no value, as `--quiet`, which may be left out
 abbrev pub flag : List ℕ → Rule
@@ -62,12 +77,14 @@ rule_for Prices = flag (codes "prices")
 rule_for Scheduled = option (codes "schedule")
 rule_for Wiring = option (codes "wiring")
 rule_for Switches = number_option (codes "switches") 2 2
-rule_for FromSetting = record (number_option (codes "from") 0 MAX_NUMBER) { defaults = codes "0" ∷ [] }
+rule_for FromSetting = record (number_option (codes "from") 0 MAX_NUMBER)
+    { defaults = codes "0" ∷ [] }
 rule_for FirstEntries = number_option (codes "first") 0 MAX_NUMBER
 rule_for Module = number_option (codes "module") 0 LAST_MODULE
 rule_for Steady = flag (codes "steady")
 rule_for GoOn = flag (codes "go-on")
-rule_for Workers = record (number_option (codes "workers") 1 MAX_WORKERS) { defaults = codes "1" ∷ [] }
+rule_for Workers = record (number_option (codes "workers") 1 MAX_WORKERS)
+    { defaults = codes "1" ∷ [] }
 rule_for Quiet = flag (codes "quiet")
 
 -- ---- the commands

@@ -93,9 +93,9 @@ pub(crate) enum Argument {
 }
 
 use Argument::{
-    Batch, Clients, FirstEntries, File, FromSetting, GoOn, Image, ImageIn, ImageOut, Module, Moves, Port,
-    PortB, Prices, Quiet, Record, RecordOut, Resume, Schedule, Scheduled, Scripts, Settings, Shape,
-    Shaped, Steady, Switches, Sync, Wiring, Workers,
+    Batch, Clients, File, FirstEntries, FromSetting, GoOn, Image, ImageIn, ImageOut, Module, Moves,
+    Port, PortB, Prices, Quiet, Record, RecordOut, Resume, Schedule, Scheduled, Scripts, Settings,
+    Shape, Shaped, Steady, Switches, Sync, Wiring, Workers,
 };
 
 /// The word that calls each command, and what it takes, in the order of [`CommandName`].

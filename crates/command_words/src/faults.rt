@@ -14,7 +14,7 @@ use clap::Command;
 use clap::error::ErrorKind;
 use std::alloc::{AllocError, Global};
 
-/// What a job lacks whose arguments clap has let through.
+/// What is missing in arguments that clap has let through.
 #[derive(Drop)]
 pub(crate) enum UsageError {
     /// An argument that has to be there. Clap has refused such arguments before.

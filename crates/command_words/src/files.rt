@@ -2,7 +2,8 @@
 
 ghost use Rattle.std.specs.Prelude.{◌≡◌, is_some};
 ghost use Rattle.plan_answers.specs.Lent.{bytes_of};
-ghost use Rattle.command_words.specs.Jobs.{files_of, hears_input, of_list as files_by, schedule_in, scripts_on as script_files, text_files};
+ghost use Rattle.command_words.specs.Jobs.{files_of, hears_input, of_list as files_by, schedule_in};
+ghost use Rattle.command_words.specs.Jobs.{scripts_on as script_files, text_files};
 ghost use Rattle.command_words.specs.Files.{file_names};
 
 use crate::jobs::{Job, PortJob, SessionJob, TextJob};

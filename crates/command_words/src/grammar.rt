@@ -3,7 +3,10 @@
 ghost use Rattle.std.specs.Prelude.{◌≡◌, IfErr, IfOk, IfSome, OnOk, OnSome};
 ghost use Rattle.command_words.specs.Jobs.{IsFaultIn, IsTaken, texts_of};
 ghost use Rattle.clap.specs.Words.{app_of, new_app, subcommand_of, subcommand_rows_of};
-ghost use Rattle.command_words.specs.Program.{IsArgument, IsCommand, IsLocal, command as command_app, flag, option, program, rule_for, top, with_arguments, with_command, one_argument, client_arguments};
+ghost use Rattle.command_words.specs.Program.{IsArgument, IsCommand, IsLocal};
+ghost use Rattle.command_words.specs.Program.{command as command_app, flag, option, program};
+ghost use Rattle.command_words.specs.Program.{rule_for, top, with_arguments, with_command};
+ghost use Rattle.command_words.specs.Program.{one_argument, client_arguments};
 
 use crate::commands::{Argument, CommandName};
 use crate::help::{CommandHelp, PROGRAM};

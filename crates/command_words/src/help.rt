@@ -193,7 +193,8 @@ Status: 0 the bytes were printed, 1 they were refused or there was no memory,
 
 /// What help says of `orders`.
 pub(crate) const ORDERS: CommandHelp = CommandHelp {
-    about: "Prints what each module does: what it copies first, sends and receives, setting by setting",
+    about: "Prints what each module does: what it copies first, sends and receives, setting by \
+        setting",
     example: "Example:\n  ./exchange orders examples/swap.txt",
     notes: "\
 BATCH is a batch text, in the form that `exchange plan --help` shows.
@@ -563,7 +564,8 @@ record or the image couldn't be written.",
 
 /// What help says of `replay`.
 pub(crate) const REPLAY: CommandHelp = CommandHelp {
-    about: "Replays a record: makes its calls again, compares each reply, and prints the image left",
+    about: "Replays a record: makes its calls again, compares each reply, and prints the image \
+        left",
     example: "Example:\n  ./exchange replay examples/two-clients.record.txt | od -An -tx1",
     notes: "\
 RECORD is what --record of `exchange serve` wrote, or of `host` or `talk`: a

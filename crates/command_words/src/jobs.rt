@@ -3,7 +3,8 @@
 ghost use Rattle.std.specs.Prelude.{◌≡◌};
 ghost use Rattle.command_words.specs.declared.jobs.ArgumentsFault.TheVariants.{NoMemory};
 ghost use Rattle.plan_answers.specs.Lent.{bytes_of};
-ghost use Rattle.command_words.specs.Jobs.{IsFaultBy, live_names, recorded_in, scripts_of, serves_live};
+ghost use Rattle.command_words.specs.Jobs.{IsFaultBy, live_names, recorded_in, scripts_of};
+ghost use Rattle.command_words.specs.Jobs.{serves_live};
 
 use crate::text::Text;
 use crate::text_list::TextList;
@@ -73,8 +74,8 @@ pub enum TextJob {
     Direct {
         moves: Text,
     },
-    /// Place the blocks of a file's batch in the words of an image's file, which are those of a rack
-    /// of the shape. That is done alike however many workers are named.
+    /// Place the blocks of a file's batch in the words of an image's file, which are those of a
+    /// rack of the shape. That is done alike however many workers are named.
     Apply {
         shape: Text,
         batch: Text,
@@ -97,7 +98,7 @@ pub enum TextJob {
         shape: Option<Text>,
         recorded: Text,
         image: Option<Text>,
-        first: Option<usize>,
+        first_entries: Option<usize>,
     },
 }
 
@@ -114,7 +115,7 @@ pub enum PortJob {
         port_b: Option<Text>,
         source: ScheduleSource<Text>,
         wiring: Option<Text>,
-        first: usize,
+        first_setting: usize,
         goes_on: bool,
         workers: WorkerCount,
     },
@@ -125,8 +126,8 @@ pub enum PortJob {
 /// A job that has sessions, which may wait for each other and for clients.
 #[derive(Drop)]
 pub enum SessionJob {
-    /// Serve the scripts of 1 to [`MAX_CLIENTS`](crate::MAX_CLIENTS) files side by side, with so many
-    /// workers.
+    /// Serve the scripts of 1 to [`MAX_CLIENTS`](crate::MAX_CLIENTS) files side by side, with so
+    /// many workers.
     Serve {
         scripts: TextList,
         workers: WorkerCount,

@@ -28,7 +28,7 @@ pub use jobs::{
 };
 pub use limits::MAX_CLIENTS;
 pub use reading::read_arguments;
-pub use role::{Role, RoleClash, DisplayedRole};
+pub use role::{DisplayedRole, Role, RoleClash};
 pub use text::Text;
 pub use text_list::TextList;
 pub use uses::{Access, FileUse, file_uses};

@@ -2,7 +2,8 @@
 //! names.
 
 ghost use Rattle.std.specs.Prelude.{◌↔◌, All, IfNone, IfSome, IsTrue, MatchOption, slice_get};
-ghost use Rattle.command_words.specs.Jobs.{HaveNames, HaveTwoNames, IsClientName, MayHaveName, clients_of};
+ghost use Rattle.command_words.specs.Jobs.{HaveNames, HaveTwoNames, IsClientName, MayHaveName};
+ghost use Rattle.command_words.specs.Jobs.{clients_of};
 ghost use Rattle.command_words.specs.Names.{IsMisnamed};
 
 use crate::jobs::Job;
@@ -50,8 +51,8 @@ fn namesake(file: &FileUse, others: &[FileUse]) -> Option<usize>
     None
 }
 
-/// The first of these files that may not have its name: what is written may not be `-`, nor be read,
-/// or written too, and standard input is read once.
+/// The first of these files that may not have its name: what is written may not be `-`, nor be
+/// read, or written too, and standard input is read once.
 pub(crate) fn first_misnamed(files: &[FileUse]) -> Option<NameFault<'_>>
     ensures some { IfSome result (IsMisnamed files.now) }
     ensures none { IfNone result (HaveNames files.now) }

@@ -3,7 +3,11 @@
 ghost use Rattle.std.specs.Prelude.{◌≢◌, ◌↔◌, IfErr, IfOk, IsTrue, OnOk, Some, codes};
 ghost use Rattle.command_words.specs.declared.limits.TheConstants.{MAX_NUMBER};
 ghost use Rattle.command_words.specs.declared.faults.UsageError.TheVariants.{Memory};
-ghost use Rattle.command_words.specs.Jobs.{AskFor, HasNumeral, HasOption, HasPlanning, HasServed, HasRack, HasRecord, HasSource, HasText, HasTwo, HasWorkers, GivesRequest, IsFaultIn, IsGiven, IsJob, IsReading, IsRequest, IsTaken, IsWithinLimits, MayBeDone, rows_in, texts_of};
+ghost use Rattle.command_words.specs.Jobs.{AskFor, HasNumeral, HasOption, HasPlanning, HasServed};
+ghost use Rattle.command_words.specs.Jobs.{HasRack, HasRecord, HasSource, HasText, HasTwo};
+ghost use Rattle.command_words.specs.Jobs.{HasWorkers, GivesRequest, IsFaultIn, IsGiven, IsJob};
+ghost use Rattle.command_words.specs.Jobs.{IsReading, IsRequest, IsTaken, IsWithinLimits};
+ghost use Rattle.command_words.specs.Jobs.{MayBeDone, rows_in, texts_of};
 
 use crate::commands::CommandName;
 use crate::faults::{UsageError, fault_of};
@@ -224,7 +228,7 @@ fn drive_of(alloc: Global, found: &ArgMatches<'_>) -> Result<Job, UsageError>
 {
     Ok(Job::Ports(PortJob::Drive {
         workers: workers_of(found)?,
-        first: first_of(found)?,
+        first_setting: first_of(found)?,
         goes_on: is_given(found, "go-on"),
         batch: text_of(alloc, found, "BATCH")?,
         port: text_of(alloc, found, "PORT")?,
@@ -309,7 +313,7 @@ fn replay_of(alloc: Global, found: &ArgMatches<'_>) -> Result<Job, UsageError>
     ensures { IsReading (IsJob CommandName.Replay (rows_in found.now)) result }
 {
     Ok(Job::Texts(TextJob::Replay {
-        first: number_of(found, "first", MAX_NUMBER)?,
+        first_entries: number_of(found, "first", MAX_NUMBER)?,
         shape: option_of(alloc, found, "shape")?,
         recorded: text_of(alloc, found, "RECORD")?,
         image: option_of(alloc, found, "image")?,

@@ -1,11 +1,13 @@
 //! The files that a job names, and what it does with each.
 
-ghost use Rattle.std.specs.Prelude.{◌≡◌, ◌↔◌, ◌++◌, ◌∷◌, [], IfOk, IsTrue, OnOk, flat_map, map, option_to_list};
+ghost use Rattle.std.specs.Prelude.{◌≡◌, ◌↔◌, ◌++◌, ◌∷◌, [], IfOk, IsTrue, OnOk, flat_map, map};
+ghost use Rattle.std.specs.Prelude.{option_to_list};
 ghost use Rattle.plan_answers.specs.Lent.{bytes_of};
-ghost use Rattle.command_words.specs.Jobs.{Exclude, client_files, file, files_beside, files_read, kept_files, port_files, file_uses as the_uses};
+ghost use Rattle.command_words.specs.Jobs.{Exclude, client_files, file, files_beside, files_read};
+ghost use Rattle.command_words.specs.Jobs.{kept_files, port_files, file_uses as the_uses};
 
 use crate::jobs::{Job, PortJob, SessionJob, SharedRack, TextJob};
-use crate::role::{Role, DisplayedRole};
+use crate::role::{DisplayedRole, Role};
 use crate::text::Text;
 use std::alloc::{AllocError, Global};
 use std::marker::Model;

@@ -1,6 +1,7 @@
 -- The links of a board's wiring: one module more, and that each link stands once.
 use Rattle.std.proofs.lemmas.Bool.Decides.{nat_tests}
-use Rattle.std.proofs.Common.{◌≡◌, ◌<◌, ◌≤◌, ◌+◌, ◌*◌, ◌==◌, ◌&&◌, ◌||◌, ℕ, zero, suc, Bool, true, false, not, List, [], ◌∷◌, ◌++◌, length, get_or, refl, sym, ap, ap₂, ◌∙◌, subst, IsTrue, arith, append_assoc, nat_lt, nat_le}
+use Rattle.std.proofs.Common.{◌≡◌, ◌<◌, ◌≤◌, ◌+◌, ◌*◌, ◌==◌, ◌&&◌, ◌||◌, ℕ, zero, suc, Bool, true, false, not, List, [], ◌∷◌, ◌++◌, length, get_or, refl, sym, ap, ap₂, ◌∙◌, subst, IsTrue, arith}
+use Rattle.std.proofs.Common.{append_assoc, nat_lt, nat_le}
 use Rattle.std.specs.List.{list_any, list_all}
 use Rattle.std.proofs.lemmas.List.{length-append}
 use Rattle.std.proofs.lemmas.List.Folds.{list_any-append, list_all-append, list_any_at}
@@ -39,7 +40,8 @@ distinct_more (y ∷ ys) x =
 pub all_links_more : (ms : List ModuleLinks) (m : ModuleLinks) → all_links (ms ++ m ∷ []) ≡ all_links ms ++ m.link0 ∷ m.link3 ∷ []
 all_links_more ms m = flat_map-append both_links ms (m ∷ [])
 
-pub distinct_two : (xs : List ℕ) (x y : ℕ) → are_distinct (xs ++ x ∷ y ∷ []) ≡ ((are_distinct xs && not (is_on x xs)) && not (is_on y xs || ((x == y) || false)))
+pub distinct_two : (xs : List ℕ) (x y : ℕ) → are_distinct (xs ++ x ∷ y ∷ [])
+    ≡ ((are_distinct xs && not (is_on x xs)) && not (is_on y xs || ((x == y) || false)))
 distinct_two xs x y =
     ap are_distinct (sym (append_assoc xs (x ∷ []) (y ∷ []))) ∙ distinct_more (xs ++ x ∷ []) y
     ∙ ap₂ (λ a b. a && not b) (distinct_more xs x) (list_any-append (λ other. other == y) xs (x ∷ []))
@@ -97,7 +99,9 @@ wiring_more ms m own =
     let xs = all_links ms in
     ap (λ (ls : List ℕ). room && (has_all ls && are_distinct ls)) (all_links_more ms m)
     ∙ ap₂ (λ h d. room && (h && d)) (list_all-append (λ link. nat_lt link PORTS) xs (m.link0 ∷ m.link3 ∷ [])) (distinct_two xs m.link0 m.link3)
-    ∙ ap₂ (λ a b. room && ((a && (nat_lt m.link0 PORTS && (nat_lt m.link3 PORTS && true))) && ((b && not (is_on m.link0 xs)) && not (is_on m.link3 xs || ((m.link0 == m.link3) || false))))) w.had w.distinct
+    ∙ ap₂ (λ a b. room &&
+    ((a && (nat_lt m.link0 PORTS && (nat_lt m.link3 PORTS && true))) &&
+    ((b && not (is_on m.link0 xs)) && not (is_on m.link3 xs || ((m.link0 == m.link3) || false))))) w.had w.distinct
     ∙ few_more room (nat_lt m.link0 PORTS) (nat_lt m.link3 PORTS) (m.link0 == m.link3) (is_on m.link0 xs) (is_on m.link3 xs)
 
 or_assoc : (a b c : Bool) → ((a || b) || c) ≡ (a || (b || c))
@@ -159,24 +163,30 @@ one_place (x ∷ xs) (suc i) zero d a b e = absurd (first_once x xs i (and_left 
 one_place (x ∷ xs) (suc i) (suc j) d a b e = ap suc (one_place xs i j (and_right (not (is_on x xs)) (are_distinct xs) d) (omega arith) (omega arith) e)
 
 -- link 0 of a module is nowhere that link 3 of one is
-pub never_one : (ms : List ModuleLinks) (m n : ℕ) (d : ModuleLinks) → IsTrue (is_wiring ms) → m < length ms → n < length ms → (get_or ms m d).link0 ≡ (get_or ms n d).link3 → ⊥
+pub never_one : (ms : List ModuleLinks) (m n : ℕ) (d : ModuleLinks) → IsTrue (is_wiring ms) → m < length ms → n < length ms → (get_or ms m d).link0
+    ≡ (get_or ms n d).link3 → ⊥
 never_one ms m n d own a b e =
     let w = are_wired ms own in
-    let same = one_place (all_links ms) (2 * m) (2 * n + 1) w.distinct (omega (arith, length_links ms)) (omega (arith, length_links ms)) (link0_at ms m d a ∙ e ∙ sym (link3_at ms n d b)) in
+    let same = one_place (all_links ms) (2 * m) (2 * n + 1) w.distinct (omega (arith, length_links ms)) (omega (arith, length_links ms))
+    (link0_at ms m d a ∙ e ∙ sym (link3_at ms n d b)) in
     omega arith
 
 -- the links 0 of two modules are two
-pub one_link0 : (ms : List ModuleLinks) (m n : ℕ) (d : ModuleLinks) → IsTrue (is_wiring ms) → m < length ms → n < length ms → (get_or ms m d).link0 ≡ (get_or ms n d).link0 → m ≡ n
+pub one_link0 : (ms : List ModuleLinks) (m n : ℕ) (d : ModuleLinks) → IsTrue (is_wiring ms) → m < length ms → n < length ms → (get_or ms m d).link0
+    ≡ (get_or ms n d).link0 → m ≡ n
 one_link0 ms m n d own a b e =
     let w = are_wired ms own in
-    let same = one_place (all_links ms) (2 * m) (2 * n) w.distinct (omega (arith, length_links ms)) (omega (arith, length_links ms)) (link0_at ms m d a ∙ e ∙ sym (link0_at ms n d b)) in
+    let same = one_place (all_links ms) (2 * m) (2 * n) w.distinct (omega (arith, length_links ms)) (omega (arith, length_links ms))
+    (link0_at ms m d a ∙ e ∙ sym (link0_at ms n d b)) in
     omega arith
 
 -- the links 3 of two modules are two
-pub one_link3 : (ms : List ModuleLinks) (m n : ℕ) (d : ModuleLinks) → IsTrue (is_wiring ms) → m < length ms → n < length ms → (get_or ms m d).link3 ≡ (get_or ms n d).link3 → m ≡ n
+pub one_link3 : (ms : List ModuleLinks) (m n : ℕ) (d : ModuleLinks) → IsTrue (is_wiring ms) → m < length ms → n < length ms → (get_or ms m d).link3
+    ≡ (get_or ms n d).link3 → m ≡ n
 one_link3 ms m n d own a b e =
     let w = are_wired ms own in
-    let same = one_place (all_links ms) (2 * m + 1) (2 * n + 1) w.distinct (omega (arith, length_links ms)) (omega (arith, length_links ms)) (link3_at ms m d a ∙ e ∙ sym (link3_at ms n d b)) in
+    let same = one_place (all_links ms) (2 * m + 1) (2 * n + 1) w.distinct (omega (arith, length_links ms)) (omega (arith, length_links ms))
+    (link3_at ms m d a ∙ e ∙ sym (link3_at ms n d b)) in
     omega arith
 
 -- the switch has a link that stands anywhere
@@ -186,7 +196,8 @@ had_at (x ∷ xs) zero h lt = let first = and_left (nat_lt x PORTS) (has_all xs)
 had_at (x ∷ xs) (suc i) h lt = had_at xs i (and_right (nat_lt x PORTS) (has_all xs) h) (omega arith)
 
 -- it has those of a module
-pub had : (ms : List ModuleLinks) (m : ℕ) (d : ModuleLinks) → IsTrue (is_wiring ms) → m < length ms → ((get_or ms m d).link0 < PORTS) × ((get_or ms m d).link3 < PORTS)
+pub had : (ms : List ModuleLinks) (m : ℕ) (d : ModuleLinks) → IsTrue (is_wiring ms) → m < length ms → ((get_or ms m d).link0 < PORTS)
+    × ((get_or ms m d).link3 < PORTS)
 had ms m d own lt =
     let w = are_wired ms own in (
       subst (λ (n : ℕ). n < PORTS) (link0_at ms m d lt) (had_at (all_links ms) (2 * m) w.had (omega (arith, length_links ms))),

@@ -16,7 +16,8 @@ after_all-append (c ∷ cs) ds s = after_all-append cs ds (after c s)
 
 pub answers-append : (cs ds : List Command) (s : Switch) → answers (cs ++ ds) s ≡ answers cs s ++ answers ds (after_all cs s)
 answers-append [] ds s = refl
-answers-append (c ∷ cs) ds s = ap (λ bytes. option_to_list (answer c s) ++ bytes) (answers-append cs ds (after c s)) ∙ sym (append_assoc (option_to_list (answer c s)) (answers cs (after c s)) (answers ds (after_all cs (after c s))))
+answers-append (c ∷ cs) ds s = ap (λ bytes. option_to_list (answer c s) ++ bytes) (answers-append cs ds (after c s))
+    ∙ sym (append_assoc (option_to_list (answer c s)) (answers cs (after c s)) (answers ds (after_all cs (after c s))))
 
 enquiries-cons : (c : Command) (cs : List Command) → enquiries (c ∷ cs) ≡ enquiries (c ∷ []) + enquiries cs
 enquiries-cons (Connect a b) cs = omega arith
@@ -57,14 +58,18 @@ pub carried_none : (start : Switch) (replies : List ℕ) → Carried [] [] start
 unfolding ran_none
 carried_none start replies = record { ran = ran_none start; told = refl; count = refl }
 
-pub ran_more : (bytes more reader left : List ℕ) (start now new : Switch) (given : Option Command) (h : Ran bytes reader start now) → Spells more (h.commands ++ option_to_list given) left → new ≡ after_all (option_to_list given) now → Ran more left start new
+pub ran_more : (bytes more reader left : List ℕ) (start now new : Switch) (given : Option Command) (h : Ran bytes reader start now)
+    → Spells more (h.commands ++ option_to_list given) left → new ≡ after_all (option_to_list given) now → Ran more left start new
 ran_more bytes more reader left start now new given h s n = record {
   commands = h.commands ++ option_to_list given;
   spells = s;
   switch = n ∙ ap (after_all (option_to_list given)) h.switch ∙ sym (after_all-append h.commands (option_to_list given) start);
 }
 
-pub carried_more : (bytes more reader left : List ℕ) (start now new : Switch) (replies replies' : List ℕ) (answered answered' : ℕ) (given : Option Command) (h : Carried bytes reader start now replies answered) → Spells more (h.ran.commands ++ option_to_list given) left → new ≡ after_all (option_to_list given) now → answered' ≡ answered + enquiries (option_to_list given) → take answered' replies' ≡ take answered replies ++ answers (option_to_list given) now → Carried more left start new replies' answered'
+pub carried_more : (bytes more reader left : List ℕ) (start now new : Switch) (replies replies' : List ℕ) (answered answered' : ℕ) (given : Option Command)
+    (h : Carried bytes reader start now replies answered) → Spells more (h.ran.commands ++ option_to_list given) left → new
+    ≡ after_all (option_to_list given) now → answered' ≡ answered + enquiries (option_to_list given) → take answered' replies' ≡ take answered replies
+    ++ answers (option_to_list given) now → Carried more left start new replies' answered'
 unfolding ran_more
 carried_more bytes more reader left start now new replies replies' answered answered' given h s n k t = record {
   ran = ran_more bytes more reader left start now new given h.ran s n;
@@ -73,7 +78,8 @@ carried_more bytes more reader left start now new replies replies' answered answ
 }
 
 -- a front asks no more replies than the whole
-pub fewer_enquiries : (bytes more : List ℕ) (commands others : List Command) (rest left : List ℕ) → Spells bytes commands rest → Spells (bytes ++ more) others left → enquiries commands ≤ enquiries others
+pub fewer_enquiries : (bytes more : List ℕ) (commands others : List Command) (rest left : List ℕ) → Spells bytes commands rest
+    → Spells (bytes ++ more) others left → enquiries commands ≤ enquiries others
 fewer_enquiries bytes more commands others rest left s t =
     let on = longer_text bytes more commands others rest left s t in
     omega (arith, ap enquiries on.others_are, enquiries-append commands on.later)
@@ -82,10 +88,12 @@ pub take_more : (bytes : List ℕ) (i : ℕ) → i < length bytes → take (i + 
 take_more bytes i h = rw add-one (take-suc bytes i 0 h)
 
 split_here : (bytes : List ℕ) (i : ℕ) → i < length bytes → bytes ≡ take i bytes ++ get_or bytes i 0 ∷ drop (i + 1) bytes
-split_here bytes i h = sym (take-append-drop i bytes) ∙ ap (λ t. take i bytes ++ t) (let e : drop i bytes ≡ get_or bytes i 0 ∷ drop (i + 1) bytes = rw (add-one, drop-cons bytes i 0) refl in e)
+split_here bytes i h = sym (take-append-drop i bytes) ∙ ap (λ t. take i bytes ++ t) (let e : drop i bytes ≡ get_or bytes i 0 ∷ drop (i + 1) bytes =
+    rw (add-one, drop-cons bytes i 0) refl in e)
 
 -- bytes that go on to others go on with their next byte
-pub goes_on : (bytes : List ℕ) (i : ℕ) (commands : List Command) (rest : List ℕ) → i < length bytes → Spells bytes commands rest → Spells (take i bytes ++ get_or bytes i 0 ∷ drop (i + 1) bytes) commands rest
+pub goes_on : (bytes : List ℕ) (i : ℕ) (commands : List Command) (rest : List ℕ) → i < length bytes → Spells bytes commands rest
+    → Spells (take i bytes ++ get_or bytes i 0 ∷ drop (i + 1) bytes) commands rest
 goes_on bytes i commands rest h s = subst (λ (b : List ℕ). Spells b commands rest) (split_here bytes i h) s
 
 -- once all bytes have come, the commands that they spell have been carried out
@@ -102,7 +110,8 @@ pub spells_conversation : (bytes : List ℕ) (replies : ℕ) (e : IsConversation
 spells_conversation bytes replies e = spells_whole bytes e.commands e.ports e.whole
 
 -- once all bytes of a conversation have come, it has been carried out
-pub carried_all : (come bytes reader : List ℕ) (start now : Switch) (replies : List ℕ) (answered number : ℕ) → Carried come reader start now replies answered → come ≡ bytes → IsConversation bytes number → length replies ≡ number → CarriesOut bytes start now replies
+pub carried_all : (come bytes reader : List ℕ) (start now : Switch) (replies : List ℕ) (answered number : ℕ) → Carried come reader start now replies answered
+    → come ≡ bytes → IsConversation bytes number → length replies ≡ number → CarriesOut bytes start now replies
 carried_all come bytes reader start now replies answered number h all e len commands a is =
     let spells = spells_whole bytes commands a is in
     let same = (one_reading bytes commands e.commands [] [] spells (spells_conversation bytes number e)).0 in

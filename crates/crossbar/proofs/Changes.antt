@@ -1,5 +1,6 @@
 -- Joins and cuts of pairs, output by output.
-use Rattle.std.proofs.Common.{◌≡◌, ◌≢◌, ◌<◌, ◌+◌, ◌==◌, ◌&&◌, ◌||◌, ◌⊎◌, inl, inr, ℕ, Bool, true, false, not, cond, eqb, List, [], ◌∷◌, ◌++◌, map, refl, sym, ap, ap₂, ◌∙◌, subst, arith, Option, Some, None}
+use Rattle.std.proofs.Common.{◌≡◌, ◌≢◌, ◌<◌, ◌+◌, ◌==◌, ◌&&◌, ◌||◌, ◌⊎◌, inl, inr, ℕ, Bool, true, false, not, cond, eqb, List, [], ◌∷◌, ◌++◌, map, refl, sym, ap, ap₂, ◌∙◌, subst, arith, Option, Some}
+use Rattle.std.proofs.Common.{None}
 use Rattle.std.specs.Ordering.{nat_cmp}
 use Rattle.std.specs.Cmp.{nat_cmp_total, unsigned_tied}
 use Rattle.std.specs.List.{flat_map, list_any, AllByRecursion}
@@ -109,7 +110,8 @@ meets_cases o i r e = elim (or_cases (o == i) (o == r) e) [
 
 -- pairs that the switch has links for, and that meet in an output, have one initiator or one
 -- responder
-shared : (w : Wiring) (o : ℕ) (p q : Pair) → Fits w p → Fits w q → meets w o p ≡ true → meets w o q ≡ true → (p.initiator ≡ q.initiator) ⊎ (p.responder ≡ q.responder)
+shared : (w : Wiring) (o : ℕ) (p q : Pair) → Fits w p → Fits w q → meets w o p ≡ true → meets w o q ≡ true → (p.initiator ≡ q.initiator)
+    ⊎ (p.responder ≡ q.responder)
 shared Both o p q a b m n = elim (meets_cases o p.initiator (JOINED_MODULES + p.responder) m) [
   | inl x ↦ elim (meets_cases o q.initiator (JOINED_MODULES + q.responder) n) [ inl y ↦ inr (omega arith) | inr y ↦ absurd (omega arith) ]
   | inr x ↦ elim (meets_cases o q.initiator (JOINED_MODULES + q.responder) n) [ inl y ↦ absurd (omega arith) | inr y ↦ inl (omega arith) ]
@@ -197,7 +199,8 @@ joins_other w (p ∷ ps) s o e =
     joins_other w ps (after (join w p) s) o (or_right (meets w o p) (any w ps o) e)
     ∙ get_join w p s o ∙ ap (λ b. cond b (Some (partner w p o)) (get s.sources o)) (or_left (meets w o p) (any w ps o) e)
 
-joins_own : (w : Wiring) (ps : List Pair) (s : Switch) (o : ℕ) (p : Pair) → In p ps → meets w o p ≡ true → ((q : Pair) → In q ps → meets w o q ≡ true → q ≡ p) → get (joins w ps s).sources o ≡ Some (partner w p o)
+joins_own : (w : Wiring) (ps : List Pair) (s : Switch) (o : ℕ) (p : Pair) → In p ps → meets w o p ≡ true → ((q : Pair) → In q ps → meets w o q ≡ true → q ≡ p)
+    → get (joins w ps s).sources o ≡ Some (partner w p o)
 unfolding joins
 joins_own w [] s o p i m u = absurd i
 joins_own w (x ∷ xs) s o p i m u = elim (true_or_false (any w xs o)) [
@@ -219,12 +222,14 @@ cuts_at w (p ∷ ps) s o =
 source : Wiring → List Pair → ℕ → Option ℕ
 source w ps o = get (switch_of w ps).sources o
 
-find_two : (i r : ℕ) (es : List (ℕ × ℕ)) (o : ℕ) → find nat_cmp o ((i, r) ∷ (r, i) ∷ es) ≡ cond (o == i || o == r) (Some (cond (o == i) r i)) (find nat_cmp o es)
+find_two : (i r : ℕ) (es : List (ℕ × ℕ)) (o : ℕ) → find nat_cmp o ((i, r) ∷ (r, i) ∷ es) ≡ cond (o == i || o == r) (Some (cond (o == i) r i))
+    (find nat_cmp o es)
 find_two i r es o =
     ap₂ (λ a b. cond a (Some r) (cond b (Some i) (find nat_cmp o es))) (unsigned_tied o i) (unsigned_tied o r)
     ∙ two (eqb o i) (eqb o r) r i (find nat_cmp o es)
 
-find_ends : (w : Wiring) (p : Pair) (es : List (ℕ × ℕ)) (o : ℕ) → find nat_cmp o (ends w p ++ es) ≡ cond (meets w o p) (Some (partner w p o)) (find nat_cmp o es)
+find_ends : (w : Wiring) (p : Pair) (es : List (ℕ × ℕ)) (o : ℕ) → find nat_cmp o (ends w p ++ es) ≡ cond (meets w o p) (Some (partner w p o))
+    (find nat_cmp o es)
 find_ends Both p es o = find_two p.initiator (JOINED_MODULES + p.responder) es o
 find_ends (Board b) p es o = find_two (link0_on b p.initiator) (link3_on b p.responder) es o
 find_ends Forth p es o = ap (λ a. cond a (Some p.initiator) (find nat_cmp o es)) (unsigned_tied o p.responder)
@@ -240,12 +245,14 @@ source_none : (w : Wiring) (ps : List Pair) (o : ℕ) → any w ps o ≡ false �
 unfolding source
 source_none w [] o e = get-empty nat_cmp o
 source_none w (p ∷ ps) o e =
-    source_more w p ps o ∙ ap (λ b. cond b (Some (partner w p o)) (source w ps o)) (or_left (meets w o p) (any w ps o) e) ∙ source_none w ps o (or_right (meets w o p) (any w ps o) e)
+    source_more w p ps o ∙ ap (λ b. cond b (Some (partner w p o)) (source w ps o)) (or_left (meets w o p) (any w ps o) e)
+    ∙ source_none w ps o (or_right (meets w o p) (any w ps o) e)
 
 source_own : (w : Wiring) (ps : List Pair) (o : ℕ) (p : Pair) → ArePairs (room_of w) ps → In p ps → meets w o p ≡ true → source w ps o ≡ Some (partner w p o)
 source_own w [] o p a i m = absurd i
 source_own w (x ∷ xs) o p a i m = elim i [
-  | inl e ↦ source_more w x xs o ∙ ap (λ (q : Pair). cond (meets w o q) (Some (partner w q o)) (source w xs o)) e ∙ ap (λ b. cond b (Some (partner w p o)) (source w xs o)) m
+  | inl e ↦ source_more w x xs o ∙ ap (λ (q : Pair). cond (meets w o q) (Some (partner w q o)) (source w xs o)) e
+      ∙ ap (λ b. cond b (Some (partner w p o)) (source w xs o)) m
   | inr k ↦ elim (true_or_false (meets w o x)) [
     | inl t ↦ absurd (apart w x p xs o a k t m)
     | inr f ↦ source_more w x xs o ∙ ap (λ b. cond b (Some (partner w x o)) (source w xs o)) f ∙ source_own w xs o p a.4 k m
@@ -265,7 +272,8 @@ same_pair p q e =
 
 pair_itself : (p q : Pair) → q ≡ p → is_pair p q ≡ true
 pair_itself p q e =
-    ap₂ (λ x y. x && y) (eqb_yes p.initiator q.initiator (ap (λ (x : Pair). x.initiator) (sym e))) (eqb_yes p.responder q.responder (ap (λ (x : Pair). x.responder) (sym e)))
+    ap₂ (λ x y. x && y) (eqb_yes p.initiator q.initiator (ap (λ (x : Pair). x.initiator) (sym e)))
+    (eqb_yes p.responder q.responder (ap (λ (x : Pair). x.responder) (sym e)))
 
 in_has : (ps : List Pair) (p : Pair) → In p ps → has ps p ≡ true
 unfolding has
@@ -312,7 +320,8 @@ without_in others (x ∷ xs) p i f = elim i [
 ]
 
 -- the outputs after the cuts and the joins are those of the new pairs
-changed : (w : Wiring) (old new : List Pair) → ArePairs (room_of w) old → ArePairs (room_of w) new → (o : ℕ) → get (joins w (without old new) (cuts w (without new old) (switch_of w old))).sources o ≡ source w new o
+changed : (w : Wiring) (old new : List Pair) → ArePairs (room_of w) old → ArePairs (room_of w) new → (o : ℕ)
+    → get (joins w (without old new) (cuts w (without new old) (switch_of w old))).sources o ≡ source w new o
 unfolding source
 changed w old new a b o =
     let come = without old new in
@@ -360,12 +369,14 @@ changed w old new a b o =
 -- the outputs after a reset and the joins are those of the pairs
 set_afresh : (w : Wiring) (ps : List Pair) → ArePairs (room_of w) ps → (o : ℕ) → get (joins w ps idle).sources o ≡ source w ps o
 set_afresh w ps a o = elim (true_or_false (any w ps o)) [
-  | inl t ↦ let who = witness w ps o t in joins_own w ps idle o who.0 who.1 who.2 (λ q k n. unique w ps q who.0 o a k who.1 n who.2) ∙ sym (source_own w ps o who.0 a who.1 who.2)
+  | inl t ↦ let who = witness w ps o t in joins_own w ps idle o who.0 who.1 who.2 (λ q k n. unique w ps q who.0 o a k who.1 n who.2)
+      ∙ sym (source_own w ps o who.0 a who.1 who.2)
   | inr f ↦ joins_other w ps idle o f ∙ get-empty nat_cmp o ∙ sym (source_none w ps o f)
 ]
 
 -- the law of a change
-pub change_law : (w : Wiring) (old new : List Pair) → ArePairs (room_of w) old → ArePairs (room_of w) new → after_all (change w old new) (switch_of w old) ≡ switch_of w new
+pub change_law : (w : Wiring) (old new : List Pair) → ArePairs (room_of w) old → ArePairs (room_of w) new → after_all (change w old new) (switch_of w old)
+    ≡ switch_of w new
 unfolding joins cuts source
 change_law w old new a b =
     after_all-append (map (cut w) (without new old)) (map (join w) (without old new) ++ Settle ∷ []) (switch_of w old)
@@ -378,6 +389,7 @@ unfolding joins source
 setting_law w s pairs a =
     after_all-append (map (join w) pairs) (Settle ∷ []) idle
     ∙ ap (λ (m : Sources). record { sources = m; ready = true }) (same_sources _ _ (set_afresh w pairs a))
+
 -- ---- links that no module is on
 
 pub without_none : (ps : List Pair) → without [] ps ≡ ps

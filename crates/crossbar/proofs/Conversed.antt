@@ -33,7 +33,8 @@ heard_bytes chip at [] = refl
 heard_bytes chip at (reply ∷ replies) = heard_bytes chip at replies
 
 -- they are those of the commands, and of no other chip
-pub conversed_bytes : (chip at : Chip) (commands : List Command) (replies : List ℕ) → bytes_to chip (conversed at commands replies) ≡ only_to chip at (text commands)
+pub conversed_bytes : (chip at : Chip) (commands : List Command) (replies : List ℕ) → bytes_to chip (conversed at commands replies) ≡ only_to chip
+    at (text commands)
 conversed_bytes chip at [] replies = none_to chip at
 conversed_bytes chip at (command ∷ commands) replies =
     let n = enquiries (command ∷ []) in
@@ -41,5 +42,6 @@ conversed_bytes chip at (command ∷ commands) replies =
     let behind = conversed at commands (drop n replies) in
     bytes_to-append chip (sent_to at (row command)) (heard ++ behind)
     ∙ ap₂ (λ (xs ys : List ℕ). xs ++ ys) (sent_bytes chip at (row command))
-    (bytes_to-append chip heard behind ∙ ap₂ (λ (xs ys : List ℕ). xs ++ ys) (heard_bytes chip at (take n replies)) (conversed_bytes chip at commands (drop n replies)))
+    (bytes_to-append chip heard behind ∙ ap₂ (λ (xs ys : List ℕ). xs ++ ys) (heard_bytes chip at (take n replies))
+    (conversed_bytes chip at commands (drop n replies)))
     ∙ both_to chip at (row command) (text commands)

@@ -40,7 +40,8 @@ front_past c cs k j p e f = record {
   whole = c ∷ f.whole;
   rest = f.rest;
   spells = record {
-    whole = ap (λ n. take n (row c ++ text cs)) e ∙ take-append-add (row c) (text cs) j ∙ ap (λ t. row c ++ t) f.spells.whole ∙ sym (append_assoc (row c) (text f.whole) f.rest);
+    whole = ap (λ n. take n (row c ++ text cs)) e ∙ take-append-add (row c) (text cs) j ∙ ap (λ t. row c ++ t) f.spells.whole
+        ∙ sym (append_assoc (row c) (text f.whole) f.rest);
     ports = (p, f.spells.ports);
     partial = f.spells.partial;
   };

@@ -1,5 +1,6 @@
 -- What a row of latches has at an output.
-use Rattle.std.proofs.Common.{◌≡◌, ◌<◌, ◌+◌, ◌≢◌, ℕ, suc, zero, true, false, cond, eqb, List, [], ◌∷◌, length, get_or, refl, sym, ap, ◌∙◌, arith, Option, Some, None, set, get_or-set_same, get_or-set_other}
+use Rattle.std.proofs.Common.{◌≡◌, ◌<◌, ◌+◌, ◌≢◌, ℕ, suc, zero, true, false, cond, eqb, List, [], ◌∷◌, length, get_or, refl, sym, ap, ◌∙◌, arith, Option, Some, None, set, get_or-set_same}
+use Rattle.std.proofs.Common.{get_or-set_other}
 use Rattle.std.specs.Ordering.{nat_cmp}
 use Rattle.std.specs.Cmp.{nat_cmp_total, unsigned_tied}
 use Rattle.std.specs.FinMap.{find, get, insert, remove, get-insert, get-remove, get-from_entries, same_map, nat_cmp-IsAntisymmetric}
@@ -42,19 +43,24 @@ get_sources latches q = get-from_entries nat_cmp_total (connections 0 latches) q
 pub same_sources : (m n : Sources) → ((q : ℕ) → get m q ≡ get n q) → m ≡ n
 same_sources m n h = same_map nat_cmp_total nat_cmp-IsAntisymmetric m n h
 
-set_at : (latches : List (Option ℕ)) (k : ℕ) (v : Option ℕ) (q : ℕ) → k < length latches → get_or (set latches k v) q None ≡ cond (eqb q k) v (get_or latches q None)
+set_at : (latches : List (Option ℕ)) (k : ℕ) (v : Option ℕ) (q : ℕ) → k < length latches → get_or (set latches k v) q None
+    ≡ cond (eqb q k) v (get_or latches q None)
 set_at latches k v q h = elim (eqb q k) as (λ b. eqb q k ≡ b → get_or (set latches k v) q None ≡ cond b v (get_or latches q None)) [
   | true ↦ λ e. let same : q ≡ k = grind arith in ap (λ i. get_or (set latches k v) i None) same ∙ (let h2 : k < length latches = h in rw get_or-set_same)
   | false ↦ λ e. let other : q ≢ k = grind arith in rw get_or-set_other
 ] refl
 
-pub sources_connect : (latches : List (Option ℕ)) (output input : ℕ) → output < length latches → sources_of (set latches output (Some input)) ≡ insert (sources_of latches) output input
+pub sources_connect : (latches : List (Option ℕ)) (output input : ℕ) → output < length latches → sources_of (set latches output (Some input))
+    ≡ insert (sources_of latches) output input
 sources_connect latches output input h = same_sources _ _ (λ q.
-    get_sources _ q ∙ set_at latches output (Some input) q h ∙ ap (λ v. cond (eqb q output) (Some input) v) (sym (get_sources latches q)) ∙ sym (get-put (sources_of latches) output input q))
+    get_sources _ q ∙ set_at latches output (Some input) q h ∙ ap (λ v. cond (eqb q output) (Some input) v) (sym (get_sources latches q))
+    ∙ sym (get-put (sources_of latches) output input q))
 
-pub sources_disconnect : (latches : List (Option ℕ)) (output : ℕ) → output < length latches → sources_of (set latches output None) ≡ remove (sources_of latches) output
+pub sources_disconnect : (latches : List (Option ℕ)) (output : ℕ) → output < length latches → sources_of (set latches output None)
+    ≡ remove (sources_of latches) output
 sources_disconnect latches output h = same_sources _ _ (λ q.
-    get_sources _ q ∙ set_at latches output None q h ∙ ap (λ v. cond (eqb q output) None v) (sym (get_sources latches q)) ∙ sym (get-cut (sources_of latches) output q))
+    get_sources _ q ∙ set_at latches output None q h ∙ ap (λ v. cond (eqb q output) None v) (sym (get_sources latches q))
+    ∙ sym (get-cut (sources_of latches) output q))
 
 same_at : (latches : List (Option ℕ)) (i : ℕ) (d e : Option ℕ) → i < length latches → get_or latches i d ≡ get_or latches i e
 same_at [] i d e h = absurd (omega arith)

@@ -1,11 +1,13 @@
 -- Pairs of modules, the commands that join them on a switch, and the switch that has just them
 -- joined. A switch connects those ends of a pair's links that are wired to it. Which commands a
 -- setting and a change are is this project's choice.
-use Rattle.std.specs.Prelude.{◌≡◌, ◌≢◌, ◌<◌, ◌≤◌, ◌==◌, ◌&&◌, ℕ, Bool, true, not, List, [], ◌∷◌, ◌++◌, map, filter, length}
+use Rattle.std.specs.Prelude.{◌≡◌, ◌≢◌, ◌<◌, ◌≤◌, ◌==◌, ◌&&◌, ℕ, Bool, true, not, List, [], ◌∷◌}
+use Rattle.std.specs.Prelude.{◌++◌, map, filter, length}
 use Rattle.std.specs.List.{flat_map, list_any, AllByRecursion}
 use Rattle.std.specs.FinMap as finmap
 use Rattle.c004_commands.specs.declared.command.Command.{Command}
-use Rattle.c004_commands.specs.declared.command.Command.TheVariants.{Connect, Join, Settle, Reset, Cut, CutPair}
+use Rattle.c004_commands.specs.declared.command.Command.TheVariants.{Connect, Join, Settle, Reset}
+use Rattle.c004_commands.specs.declared.command.Command.TheVariants.{Cut, CutPair}
 use Rattle.c004_commands.specs.declared.port.TheConstants.{PORTS}
 use Rattle.crossbar.specs.Switch.{Switch}
 use Rattle.crossbar.specs.Chips.{Switches}

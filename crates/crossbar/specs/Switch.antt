@@ -3,14 +3,16 @@
 -- silent the choice is this project's: a new connection replaces the one that the output had, both
 -- links of a command may be one link, only `Connect` and `Join` make the switch unready, and a new
 -- switch is as after a reset.
-use Rattle.std.specs.Prelude.{ℕ, Bool, true, false, List, [], ◌∷◌, ◌++◌, ◌+◌, refl, Option, Some, None}
+use Rattle.std.specs.Prelude.{ℕ, Bool, true, false, List, [], ◌∷◌, ◌++◌, ◌+◌, refl, Option, Some}
+use Rattle.std.specs.Prelude.{None}
 use Rattle.std.specs.Option.{option_to_list}
 use Rattle.std.specs.Ordering.{nat_cmp}
 use Rattle.std.specs.FinMap as map
 use Rattle.std.specs.Coded.{Coded, code_by, coded×, coded_ℕ, coded_bool}
 use Rattle.c004_commands.specs.Answers.{answer_byte}
 use Rattle.c004_commands.specs.declared.command.Command.{Command}
-use Rattle.c004_commands.specs.declared.command.Command.TheVariants.{Connect, Join, Enquire, Settle, Reset, Cut, CutPair}
+use Rattle.c004_commands.specs.declared.command.Command.TheVariants.{Connect, Join, Enquire, Settle}
+use Rattle.c004_commands.specs.declared.command.Command.TheVariants.{Reset, Cut, CutPair}
 
 -- from outputs to the inputs that feed them: an output that it lacks is disconnected
 abbrev pub Sources : Type 0

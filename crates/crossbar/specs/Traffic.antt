@@ -1,7 +1,8 @@
 -- The bytes that pass over the configuration links, in order. That a reply is heard before the next
 -- command is sent, and that a conversation which fails may break off anywhere, is this project's
 -- choice.
-use Rattle.std.specs.Prelude.{◌≡◌, ℕ, List, [], ◌∷◌, ◌++◌, map, length, take, drop, Option, Some, None}
+use Rattle.std.specs.Prelude.{◌≡◌, ℕ, List, [], ◌∷◌, ◌++◌, map, length, take, drop, Option, Some}
+use Rattle.std.specs.Prelude.{None}
 use Rattle.std.specs.List.{flat_map}
 use Rattle.std.specs.declared.snapshot.Snapshot.{Snapshot}
 use Rattle.c004_commands.specs.Commands.{row, text, AreCommands}

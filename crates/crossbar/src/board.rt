@@ -1,6 +1,7 @@
 //! How a board's modules are wired to its switch.
 
-ghost use Rattle.std.specs.Prelude.{◌≡◌, ◌≤◌, ◌<◌, ◌==◌, ◌++◌, ◌∷◌, [], IsTrue, IfSome, IfNone, length, take, Some};
+ghost use Rattle.std.specs.Prelude.{◌≡◌, ◌≤◌, ◌<◌, ◌==◌, ◌++◌, ◌∷◌, [], IsTrue, IfSome, IfNone};
+ghost use Rattle.std.specs.Prelude.{length, take, Some};
 ghost use Rattle.std.specs.List.{list_any};
 ghost use Rattle.crossbar.specs.Boards.{is_at, is_wiring};
 ghost use Rattle.crossbar.specs.declared.switch.TheConstants.{JOINED_MODULES};

@@ -1,6 +1,7 @@
 //! The port through which the switches of a rack are set and asked.
 
-ghost use Rattle.std.specs.Prelude.{◌≡◌, ◌<◌, ◌≤◌, ◌+◌, ◌++◌, Bool, true, ℕ, List, Option, None, IsTrue, length, take, IsOk, OnOk, OnErr};
+ghost use Rattle.std.specs.Prelude.{◌≡◌, ◌<◌, ◌≤◌, ◌+◌, ◌++◌, Bool, true, ℕ, List, Option, None};
+ghost use Rattle.std.specs.Prelude.{IsTrue, length, take, IsOk, OnOk, OnErr};
 ghost use Rattle.std.specs.Option.{option_to_list};
 ghost use Rattle.crossbar.specs.Switch.{after_all, answers, enquiries};
 ghost use Rattle.crossbar.specs.Chips.{Switches, both_idle, switch_at, CarriesOutAt};

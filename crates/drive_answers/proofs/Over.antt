@@ -26,15 +26,18 @@ use Rattle.drive_answers.specs.declared.fault.DriveFault.TheVariants.{Untold as 
 use Rattle.drive_answers.specs.Ways.{Names, Ways, given_back, opened_by}
 
 -- ports that hadn't failed before
-port_failed : {P : Type 0} (seen : Ghosts P) (rack : RackWiring) (batch : List Transfer) (settings : List (List ℕ)) (first : ℕ) (how : DriveOutcome) (old new : P) → seen.failures old ≡ 0 → HasDriveCause seen rack batch settings first how old new → HasPortFailed how (seen.failures new)
+port_failed : {P : Type 0} (seen : Ghosts P) (rack : RackWiring) (batch : List Transfer) (settings : List (List ℕ)) (first : ℕ) (how : DriveOutcome)
+    (old new : P) → seen.failures old ≡ 0 → HasDriveCause seen rack batch settings first how old new → HasPortFailed how (seen.failures new)
 port_failed seen rack batch settings first (Completed count) old new none cause = cause.0 ∙ none
 port_failed seen rack batch settings first (Stopped k Port) old new none cause = subst (λ (n : ℕ). n < seen.failures new) none cause
 port_failed seen rack batch settings first (Stopped k (Switch found)) old new none cause = cause.1 ∙ none
 port_failed seen rack batch settings first (Halted k halt) old new none cause = cause.0 ∙ none
 
-pub driven_over : {S P : Type 0} (hears : Hearing S) (seen : Ghosts P) (rack : RackWiring) (batch : List Transfer) (settings : List (List ℕ)) (first : ℕ) (how : DriveOutcome) (names : Names) (was opened opens : Ways) (old new : P) (told tells : S)
+pub driven_over : {S P : Type 0} (hears : Hearing S) (seen : Ghosts P) (rack : RackWiring) (batch : List Transfer) (settings : List (List ℕ)) (first : ℕ)
+    (how : DriveOutcome) (names : Names) (was opened opens : Ways) (old new : P) (told tells : S)
     → opened ≡ opened_by names was → opens ≡ given_back (seen.passed new) (seen.failures new) opened
-    → seen.passed old ≡ Some [] → seen.failures old ≡ 0 → IsDriven hears rack batch settings first how (seen.passed old) told (seen.passed new) tells → HasDriveCause seen rack batch settings first how old new
+    → seen.passed old ≡ Some [] → seen.failures old ≡ 0 → IsDriven hears rack batch settings first how (seen.passed old) told (seen.passed new) tells
+    → HasDriveCause seen rack batch settings first how old new
     → IsDrivenOver hears rack batch settings first how names was opens told tells
 driven_over hears seen rack batch settings first how names was opened opens old new told tells begun given fresh none went cause =
     record {
@@ -46,13 +49,19 @@ driven_over hears seen rack batch settings first how names was opened opens old 
     }
 
 -- a refusal of what is first wrong
-pub refused_so : {S : Type 0} (hears : Hearing S) (source : ScheduleSource (List ℕ)) (text : List ℕ) (wiring : Option (List ℕ)) (first : ℕ) (names : Names) (was : Ways) (told : S) (r : Result DriveEnd DriveFault) (refusal : Refusal)
-    → (refusal ≢ Memory → IsFirstDriveWrong source text wiring first refusal) → IfOk r (λ end. Refuses refusal end.answer) → IfOk r (λ end. IsDriveAnswer hears source text wiring first names was was told told end.answer)
-refused_so hears source text wiring first names was told r refusal is refused = IfOk-weaker r _ _ (λ end refuses. wrong refusal (is refuses.0) refuses refl refl) refused
+pub refused_so : {S : Type 0} (hears : Hearing S) (source : ScheduleSource (List ℕ)) (text : List ℕ) (wiring : Option (List ℕ)) (first : ℕ) (names : Names)
+    (was : Ways) (told : S) (r : Result DriveEnd DriveFault) (refusal : Refusal)
+    → (refusal ≢ Memory → IsFirstDriveWrong source text wiring first refusal) → IfOk r (λ end. Refuses refusal end.answer)
+    → IfOk r (λ end. IsDriveAnswer hears source text wiring first names was was told told end.answer)
+refused_so hears source text wiring first names was told r refusal is refused =
+    IfOk-weaker r _ _ (λ end refuses. wrong refusal (is refuses.0) refuses refl refl) refused
 
 -- where there is no answer, of a schedule of the batch that the text denotes
-pub failed : {S : Type 0} (hears : Hearing S) (source : ScheduleSource (List ℕ)) (text : List ℕ) (wiring : Option (List ℕ)) (first : ℕ) (names : Names) (was opens : Ways) (told tells : S) (board : Option Board) (filled : Option BoardWiring) (batch : List Transfer) (settings : List (List ℕ))
-    → IsBoardOf wiring board → IsScheduleFrom source widest text batch settings → HasWaysOn board batch → IsFilled board filled → (fault : DriveFault) → HasFailedOver hears (rack_for filled (is_wide_over names batch)) batch settings first names was opens told tells fault
+pub failed : {S : Type 0} (hears : Hearing S) (source : ScheduleSource (List ℕ)) (text : List ℕ) (wiring : Option (List ℕ)) (first : ℕ) (names : Names)
+    (was opens : Ways) (told tells : S) (board : Option Board) (filled : Option BoardWiring) (batch : List Transfer) (settings : List (List ℕ))
+    → IsBoardOf wiring board → IsScheduleFrom source widest text batch settings → HasWaysOn board batch → IsFilled board filled → (fault : DriveFault)
+    → HasFailedOver hears (rack_for filled (is_wide_over names batch)) batch settings first names was opens told tells fault
     → HasFailed hears source text wiring first names was opens told tells fault
-failed hears source text wiring first names was opens told tells board filled batch settings is_board from has fills NotTold over = (board, filled, batch, settings, is_board, from, has, fills, over)
+failed hears source text wiring first names was opens told tells board filled batch settings is_board from has fills NotTold over =
+    (board, filled, batch, settings, is_board, from, has, fills, over)
 failed hears source text wiring first names was opens told tells board filled batch settings is_board from has fills NoMemory over = over

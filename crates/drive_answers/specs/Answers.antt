@@ -1,6 +1,7 @@
 -- What `drive` answers: how the settings of a schedule were put on the switches of a rack, over
 -- ports of these names, which were opened for them.
-use Rattle.std.specs.Prelude.{◌≡◌, ◌<◌, ◌⊎◌, ◌==◌, ◌||◌, ℕ, Bool, List, [], length, Option, Some, None, if◌then◌else◌, nat_lt}
+use Rattle.std.specs.Prelude.{◌≡◌, ◌<◌, ◌⊎◌, ◌==◌, ◌||◌, ℕ, Bool, List, [], length, Option, Some}
+use Rattle.std.specs.Prelude.{None, if◌then◌else◌, nat_lt}
 use Rattle.batch.specs.ShapeView.{widest}
 use Rattle.batch.specs.declared.transfer.Transfer.{Transfer}
 use Rattle.board_wiring.specs.Boards.{IsBoardOf, IsFilled, IsMiswired}
@@ -60,7 +61,8 @@ HasPortFailed how failed = failed ≡ 0
 -- The settings from this one on were driven so over the ports of these names: they were opened,
 -- once; nothing had passed over them before, and this had passed as they were given back.
 pub record IsDrivenOver {S : Type 0} (hears : Hearing S)
-    (rack : RackWiring) (batch : List Transfer) (settings : List (List ℕ)) (first : ℕ) (how : DriveOutcome)
+    (rack : RackWiring) (batch : List Transfer) (settings : List (List ℕ)) (first : ℕ)
+    (how : DriveOutcome)
     (names : Names) (was opens : Ways) (told tells : S) : Type 0 where
   pub carried : Option (List Passing)
   pub failed : ℕ
@@ -75,7 +77,8 @@ pub data IsTried {S : Type 0} (hears : Hearing S) (rack : RackWiring)
     (was opens : Ways) (told tells : S) (printed : Printed) : Type 0 where
   driven : (how : DriveOutcome) → how_many names ≡ switches_in rack
       → IsDrivenOver hears rack batch settings first how names was opens told tells
-      → IsEnding how printed → IsTried hears rack batch settings first names was opens told tells printed
+      → IsEnding how printed → IsTried hears rack batch settings first names was opens told tells
+      printed
   unopened : (refusal : Refusal) → IsUnopened names (switches_in rack) refusal
       → Refuses refusal printed → tells ≡ told → opens ≡ was
       → IsTried hears rack batch settings first names was opens told tells printed
@@ -95,7 +98,8 @@ HasFailedOver {S} hears rack batch settings first names was opens told tells NoM
 -- What is first wrong with the texts: that of the wiring is looked at first, and then the others.
 -- What the batch needs and the board hasn't is refused after faults of the batch's text, and before
 -- those of a schedule. Then the schedule has to have the setting from which on it is driven.
-pub data IsFirstDriveWrong (source : ScheduleSource (List ℕ)) (text : List ℕ) (wiring : Option (List ℕ))
+pub data IsFirstDriveWrong (source : ScheduleSource (List ℕ)) (text : List ℕ)
+    (wiring : Option (List ℕ))
     (first : ℕ) (refusal : Refusal) : Type 0 where
   wiring_wrong : (fault : WiringFault) → IsMiswired wiring fault → refusal ≡ of_wiring fault
       → IsFirstDriveWrong source text wiring first refusal

@@ -4,7 +4,8 @@ use Rattle.std.specs.Fmt.{decimal}
 use Rattle.plan_answers.specs.Refusals.{Printed}
 use Rattle.plan_answers.specs.declared.limits.TheConstants.{DONE, REFUSED}
 use Rattle.switch_driver.specs.declared.driving.DriveOutcome.{DriveOutcome}
-use Rattle.switch_driver.specs.declared.driving.DriveOutcome.TheVariants.{Completed, Stopped, Halted}
+use Rattle.switch_driver.specs.declared.driving.DriveOutcome.TheVariants.{Completed, Stopped}
+use Rattle.switch_driver.specs.declared.driving.DriveOutcome.TheVariants.{Halted}
 use Rattle.switch_driver.specs.declared.drive_observer.Halt.TheVariants.{Left, Unheard, Untold}
 use Rattle.switch_settings.specs.declared.fault.SettingFault.{SettingFault}
 use Rattle.switch_settings.specs.declared.fault.SettingFault.TheVariants.{Port, Switch}

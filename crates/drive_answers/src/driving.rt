@@ -11,7 +11,9 @@ ghost use Rattle.refusals.specs.declared.refusal.Refusal.TheVariants.{NoSetting}
 ghost use Rattle.plan_answers.specs.Schedules.{said_by};
 ghost use Rattle.switch_settings.specs.RackWirings.{wired_in};
 ghost use Rattle.switch_settings.specs.Racks.{HasModulesOf, joined_by};
-ghost use Rattle.drive_answers.specs.Answers.{is_wide_over as wide_over, rack_for, switches_in, IsStart, IsTried, HasFailedOver, IsDriveAnswer, HasFailed};
+ghost use Rattle.drive_answers.specs.Answers.{is_wide_over as wide_over, rack_for, switches_in};
+ghost use Rattle.drive_answers.specs.Answers.{IsStart, IsTried, HasFailedOver, IsDriveAnswer};
+ghost use Rattle.drive_answers.specs.Answers.{HasFailed};
 ghost use Rattle.drive_answers.specs.Ways.{names_of};
 
 use crate::drive_end::DriveEnd;
@@ -27,7 +29,7 @@ use crossbar::{BoardWiring, JOINED_MODULES};
 use exchange_limits::WorkerCount;
 use line_words::LINE_ROOM;
 use link_graph::Schedule;
-use plan_answers::{Answer, Scheduled, ScheduleSource};
+use plan_answers::{Answer, ScheduleSource, Scheduled};
 use refusals::{Refusal, Validity};
 use std::alloc::Global;
 use std::thread::Threads;
@@ -159,7 +161,7 @@ fn no_setting(alloc: Global, first: usize, schedule: &Schedule) -> Result<DriveE
     })
 }
 
-/// What `exchange drive` answers after what the stage was told: the settings of a schedule of the
+/// What `exchange drive` answers after the calls of its observer: the settings of a schedule of the
 /// batch that the text denotes are put on the switches, one after another, from the first one on
 /// that is named, over the ports of these names, which are opened for them; or the refusal of what
 /// is first wrong, as [`Scheduled::read`](plan_answers::Scheduled::read) looks at it, or of the
@@ -170,10 +172,10 @@ fn no_setting(alloc: Global, first: usize, schedule: &Schedule) -> Result<DriveE
 /// settings stood; or, under [`REFUSED`](plan_answers::REFUSED), `stopped setting K port` where the
 /// port failed, `stopped setting K switch O` where that output is the first that doesn't reply what
 /// setting K calls for, and `stopped setting K input` where setting K stands, and it can't be heard
-/// whether another is wanted; or `left setting K` where the stage wants no other. K and S are the
-/// schedule's numbers. The rack has two switches where two ports are named, or where the batch names
-/// a module above 15. The batch is read against the widest shape. So many workers make a plain plan.
-/// Want of memory comes before a port is opened.
+/// whether another is wanted; or `left setting K` where the observer wants no other. K and S are
+/// the schedule's numbers. The rack has two switches where two ports are named, or where the batch
+/// names a module above 15. The batch is read against the widest shape. So many workers make a
+/// plain plan. Want of memory comes before a port is opened.
 ///
 /// Where there is a text of a board's wiring, the settings are put on the board's one switch, and O
 /// is its output's own number. That text is looked at first, and `refused wiring line N` tells its

@@ -1,11 +1,12 @@
 //! The answer of the command that drives the switches of a rack, from the bytes of its texts to the
 //! last line that is printed and its status.
 //!
-//! The ports of the switches, and whoever is told that a setting stands, are the caller's:
-//! [`Ports`] and [`DriveObserver`](switch_driver::Stage). The settings from the one that is named on were
-//! driven over the ports of these names, which were opened for them, once, and the last line says
-//! how that ended. Or it is a refusal: then no port was handed over, nothing was sent, and nothing
-//! was told (`IsDriveAnswer` of `specs/Answers.antt`; `HasFailed` where there is no answer).
+//! The ports of the switches, and the observer that is called for each setting that stands, are the
+//! caller's: [`Ports`] and [`DriveObserver`](switch_driver::DriveObserver). The settings from the
+//! one that is named on were driven over the ports of these names, which were opened for them,
+//! once, and the last line says how that ended. Or it is a refusal: then no port was handed over,
+//! nothing was sent, and nothing was told (`IsDriveAnswer` of `specs/Answers.antt`; `HasFailed`
+//! where there is no answer).
 #![tactic(auto)]
 
 mod drive_end;

@@ -96,12 +96,12 @@ fn place_on(board: &Board, output: u8) -> Option<ModuleLink> {
 
 /// A reply of an output, as the byte, and in words what feeds the output.
 #[derive(Clone, Copy)]
-struct Reply {
+struct DisplayedReply {
     byte: u8,
     is_one_way: bool,
 }
 
-impl fmt::Display for Reply {
+impl fmt::Display for DisplayedReply {
     fn fmt<W: fmt::Write>(&self, f: &mut fmt::Formatter<W>) -> fmt::Result {
         let byte = self.byte;
         let Ok(state) = OutputState::read(byte) else {
@@ -121,11 +121,11 @@ impl fmt::Display for Reply {
 impl fmt::Display for OutputMismatch {
     fn fmt<W: fmt::Write>(&self, f: &mut fmt::Formatter<W>) -> fmt::Result {
         let is_one_way = self.is_one_way;
-        let wanted = Reply {
+        let wanted = DisplayedReply {
             byte: wanted_byte(self.found.wanted),
             is_one_way,
         };
-        let came = Reply {
+        let came = DisplayedReply {
             byte: self.found.came,
             is_one_way,
         };

@@ -25,7 +25,7 @@ pub enum PortFile {
 pub struct PortFailure {
     /// The port.
     pub port: PortName,
-    /// The file of it that lacks, or that failed.
+    /// The file of it that is missing, or that failed.
     pub file: PortFile,
     /// The reason. The kind of a file that ended is `UnexpectedEof`.
     pub why: io::Error,
@@ -49,8 +49,8 @@ pub trait Ports {
         ensures refused { IfErr result (λ refusal. refusal ≢ NoMemory →
             IsPortRefused (names_of names.entry) refusal) };
 
-    /// Why a port couldn't be opened, where one couldn't, or why it had failed as it was taken back.
-    /// It is told once.
+    /// Why a port couldn't be opened, where one couldn't, or why it had failed as it was taken
+    /// back. It is told once.
     fn take_failure(&mut self) -> Option<PortFailure>
         ensures { ways self.new ≡ ways self.old };
 

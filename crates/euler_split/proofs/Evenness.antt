@@ -1,5 +1,6 @@
 -- Pairs of links whose numbers of transfers are even, and the bits of these numbers.
-use Rattle.std.proofs.Common.{◌≡◌, ◌==◌, ℕ, ◌+◌, ◌*◌, ◌%◌, ◌<◌, ◌≤◌, ◌⊎◌, inl, inr, List, [], ◌∷◌, length, get_or, slice_index, set, take, replicate, All, true, false, ◌&&◌, cond, refl, sym, ap, ◌∙◌, arith, below_more, bit_or, get_or-set_same, get_or-set_other, length-set, w16, eq-eqb, ◌^◌, ◌/◌}
+use Rattle.std.proofs.Common.{◌≡◌, ◌==◌, ℕ, ◌+◌, ◌*◌, ◌%◌, ◌<◌, ◌≤◌, ◌⊎◌, inl, inr, List, [], ◌∷◌, length, get_or, slice_index, set, take, replicate, All, true, false, ◌&&◌, cond, refl, sym, ap, ◌∙◌}
+use Rattle.std.proofs.Common.{arith, below_more, bit_or, get_or-set_same, get_or-set_other, length-set, w16, eq-eqb, ◌^◌, ◌/◌}
 use Rattle.std.specs.Int.{bit_at, trailing_zeros}
 use Rattle.std.proofs.lemmas.Bool.{cases_lt, ne_eqb}
 use Rattle.std.proofs.lemmas.Bool.Decides.{eqb_tells}
@@ -24,7 +25,9 @@ none_counted batch = record {
   at = λ u v u_in v_in. get_or-replicate (MAX_MODULES * MAX_MODULES) (u * MAX_MODULES + v) 0 0 (omega (arith, u_in, v_in));
 }
 
-module _ (batch : List Transfer) (whole counts : List ℕ) (n a b : ℕ) (n_in : n < length whole) (so_far : ArePairCounts batch (take n whole) counts) (a_in : a < MAX_MODULES) (b_in : b < MAX_MODULES) (zero_is : a ≡ module_in batch Zero (get_or whole n 0)) (three_is : b ≡ module_in batch Three (get_or whole n 0)) where
+module _ (batch : List Transfer) (whole counts : List ℕ) (n a b : ℕ) (n_in : n < length whole) (so_far : ArePairCounts batch (take n whole) counts)
+    (a_in : a < MAX_MODULES) (b_in : b < MAX_MODULES) (zero_is : a ≡ module_in batch Zero (get_or whole n 0))
+    (three_is : b ≡ module_in batch Three (get_or whole n 0)) where
   abbrev t : ℕ
   t = get_or whole n 0
 
@@ -47,14 +50,36 @@ module _ (batch : List Transfer) (whole counts : List ℕ) (n a b : ℕ) (n_in :
             | inl q ↦
                 let here : u * MAX_MODULES + v ≡ place = omega (arith, p.1, q.1, zero_is, three_is) in
                 let found : bit (uses_pair batch u v t) ≡ 1 = rw (p.0, q.0) refl in
-                omega (arith, one_more u v, found, old, ap (λ (i : ℕ). slice_index counts i) here, ap (λ (i : ℕ). get_or now i 0) here, get_or-set_same counts place (slice_index counts place + 1) 0 (omega (arith, so_far.places, a_in, b_in)))
+                omega (
+                  arith,
+                  one_more u v,
+                  found,
+                  old,
+                  ap (λ (i : ℕ). slice_index counts i) here,
+                  ap (λ (i : ℕ). get_or now i 0) here,
+                  get_or-set_same counts place (slice_index counts place + 1) 0 (omega (arith, so_far.places, a_in, b_in)),
+                )
             | inr q ↦
                 let found : bit (uses_pair batch u v t) ≡ 0 = rw (p.0, q.0) refl in
-                omega (arith, one_more u v, found, old, get_or-set_other counts place (u * MAX_MODULES + v) (slice_index counts place + 1) 0 (λ same. q.1 (omega (arith, same, p.1, zero_is, three_is))))
+                omega (
+                  arith,
+                  one_more u v,
+                  found,
+                  old,
+                  get_or-set_other counts place (u * MAX_MODULES + v) (slice_index counts place + 1) 0
+                      (λ same. q.1 (omega (arith, same, p.1, zero_is, three_is))),
+                )
           ]
           | inr p ↦
               let found : bit (uses_pair batch u v t) ≡ 0 = rw p.0 refl in
-              omega (arith, one_more u v, found, old, get_or-set_other counts place (u * MAX_MODULES + v) (slice_index counts place + 1) 0 (λ same. p.1 (omega (arith, same, u_in, v_in, a_in, b_in, zero_is))))
+              omega (
+                arith,
+                one_more u v,
+                found,
+                old,
+                get_or-set_other counts place (u * MAX_MODULES + v) (slice_index counts place + 1) 0
+                    (λ same. p.1 (omega (arith, same, u_in, v_in, a_in, b_in, zero_is))),
+              )
         ];
   }
 
@@ -73,29 +98,45 @@ more_bits counts bits n h i =
 -- ---- how often they can be halved
 
 -- no transfer is of a module that no rack has
-none_past : (batch : List Transfer) (ts : List ℕ) (u v : ℕ) → IsBatch batch → All (λ t. t < length batch) ts → (MAX_MODULES ≤ u) ⊎ (MAX_MODULES ≤ v) → pair_count batch ts u v ≡ 0
+none_past : (batch : List Transfer) (ts : List ℕ) (u v : ℕ) → IsBatch batch → All (λ t. t < length batch) ts → (MAX_MODULES ≤ u) ⊎ (MAX_MODULES ≤ v)
+    → pair_count batch ts u v ≡ 0
 none_past batch [] u v fits known past = refl
 none_past batch (t ∷ ts) u v fits known past =
     let t_in : t < length batch = All-head (λ x. x < length batch) t ts known in
     let away : uses_pair batch u v t ≡ false = elim past [
       | inl far ↦ rw (ne_eqb (module_in batch Zero t) u (λ e. omega (arith, e, far, module_in_low batch Zero t fits t_in))) refl
-      | inr far ↦ rw (ne_eqb (module_in batch Three t) v (λ e. omega (arith, e, far, module_in_low batch Three t fits t_in))) (elim (module_in batch Zero t == u) as (λ b. (b && false) ≡ false) [ true ↦ refl | false ↦ refl ])
+      | inr far ↦ rw (ne_eqb (module_in batch Three t) v (λ e. omega (arith, e, far, module_in_low batch Three t fits t_in)))
+          (elim (module_in batch Zero t == u) as (λ b. (b && false) ≡ false) [ true ↦ refl | false ↦ refl ])
     ] in
-    omega (arith, sum_by-cons (λ y. bit (uses_pair batch u v y)) t ts, ap bit away, none_past batch ts u v fits (All-tail (λ x. x < length batch) t ts known) past)
+    omega (
+      arith,
+      sum_by-cons (λ y. bit (uses_pair batch u v y)) t ts,
+      ap bit away,
+      none_past batch ts u v fits (All-tail (λ x. x < length batch) t ts known)
+          past,
+    )
 
 none_without_pairs : (batch : List Transfer) (ts : List ℕ) → ((u v : ℕ) → pair_count batch ts u v ≡ 0) → ts ≡ []
 none_without_pairs batch [] none = refl
 none_without_pairs batch (t ∷ ts) none =
-    let here : uses_pair batch (module_in batch Zero t) (module_in batch Three t) t ≡ true = rw (eq-eqb (module_in batch Zero t) (module_in batch Zero t) refl, eq-eqb (module_in batch Three t) (module_in batch Three t) refl) refl in
-    absurd (omega (arith, sum_by-cons (λ y. bit (uses_pair batch (module_in batch Zero t) (module_in batch Three t) y)) t ts, ap bit here, none (module_in batch Zero t) (module_in batch Three t)))
+    let here : uses_pair batch (module_in batch Zero t) (module_in batch Three t) t ≡ true =
+    rw (eq-eqb (module_in batch Zero t) (module_in batch Zero t) refl, eq-eqb (module_in batch Three t) (module_in batch Three t) refl) refl in
+    absurd (omega (
+      arith,
+      sum_by-cons (λ y. bit (uses_pair batch (module_in batch Zero t) (module_in batch Three t) y)) t ts,
+      ap bit here,
+      none (module_in batch Zero t) (module_in batch Three t),
+    ))
 
-module _ (batch : List Transfer) (ts counts : List ℕ) (bits : ℕ) (fits : IsBatch batch) (known : All (λ t. t < length batch) ts) (counted : ArePairCounts batch ts counts) (has : HasBits counts (length counts) bits) where
+module _ (batch : List Transfer) (ts counts : List ℕ) (bits : ℕ) (fits : IsBatch batch) (known : All (λ t. t < length batch) ts)
+    (counted : ArePairCounts batch ts counts) (has : HasBits counts (length counts) bits) where
   bits_below : (u v i : ℕ) → bit_at bits i ≡ 0 → bit_at (pair_count batch ts u v) i ≡ 0
   bits_below u v i none = elim (cases_lt u MAX_MODULES) [
     | inr far ↦ ap (λ (n : ℕ). bit_at n i) (none_past batch ts u v fits known (inl far)) ∙ bit_at-zero i
     | inl u_in ↦ elim (cases_lt v MAX_MODULES) [
       | inr far ↦ ap (λ (n : ℕ). bit_at n i) (none_past batch ts u v fits known (inr far)) ∙ bit_at-zero i
-      | inl v_in ↦ ap (λ (n : ℕ). bit_at n i) (sym (counted.at u v u_in v_in)) ∙ (has i).0 none (u * MAX_MODULES + v) (omega (arith, counted.places, u_in, v_in))
+      | inl v_in ↦ ap (λ (n : ℕ). bit_at n i) (sym (counted.at u v u_in v_in)) ∙ (has i).0 none (u * MAX_MODULES + v)
+          (omega (arith, counted.places, u_in, v_in))
     ]
   ]
 
@@ -104,7 +145,8 @@ module _ (batch : List Transfer) (ts counts : List ℕ) (bits : ℕ) (fits : IsB
       let u : ℕ = k / MAX_MODULES in
       let v : ℕ = k % MAX_MODULES in
       let place : u * MAX_MODULES + v ≡ k = omega arith in
-      ap (λ (j : ℕ). bit_at (slice_index counts j) i) (sym place) ∙ (ap (λ (n : ℕ). bit_at n i) (counted.at u v (omega (arith, counted.places, k_in)) (omega arith)) ∙ none u v))
+      ap (λ (j : ℕ). bit_at (slice_index counts j) i) (sym place)
+      ∙ (ap (λ (n : ℕ). bit_at n i) (counted.at u v (omega (arith, counted.places, k_in)) (omega arith)) ∙ none u v))
 
   pub halved_by_bits : 0 < bits → bits < 2 ^ 16 → CanBeHalved batch ts (trailing_zeros w16 bits)
   halved_by_bits some small u v i lt = bits_below u v i ((bit_at-trailing_zeros w16 bits some small).2 i lt)
@@ -112,13 +154,16 @@ module _ (batch : List Transfer) (ts counts : List ℕ) (bits : ℕ) (fits : IsB
   pub most_by_bits : 0 < bits → bits < 2 ^ 16 → (times : ℕ) → CanBeHalved batch ts times → times ≤ trailing_zeros w16 bits
   most_by_bits some small times even = elim (cases_lt (trailing_zeros w16 bits) times) [
     | inr le ↦ le
-    | inl lt ↦ absurd (omega (arith, bits_above (trailing_zeros w16 bits) (λ u v. even u v (trailing_zeros w16 bits) lt), (bit_at-trailing_zeros w16 bits some small).1))
+    | inl lt ↦ absurd
+        (omega (arith, bits_above (trailing_zeros w16 bits) (λ u v. even u v (trailing_zeros w16 bits) lt), (bit_at-trailing_zeros w16 bits some small).1))
   ]
 
   pub none_by_bits : bits ≡ 0 → ts ≡ []
   none_by_bits none =
-      let zero_at : (u v : ℕ) → pair_count batch ts u v ≡ 0 = λ u v. same_from_bits (pair_count batch ts u v) 0 (λ i. bits_below u v i (ap (λ (n : ℕ). bit_at n i) none ∙ bit_at-zero i) ∙ sym (bit_at-zero i)) in
+      let zero_at : (u v : ℕ) → pair_count batch ts u v ≡ 0 = λ u v. same_from_bits (pair_count batch ts u v) 0
+      (λ i. bits_below u v i (ap (λ (n : ℕ). bit_at n i) none ∙ bit_at-zero i) ∙ sym (bit_at-zero i)) in
       none_without_pairs batch ts zero_at
 
   pub bits_of_none : ts ≡ [] → bits ≡ 0
-  bits_of_none empty = same_from_bits bits 0 (λ i. bits_above i (λ u v. ap (λ (xs : List ℕ). bit_at (pair_count batch xs u v) i) empty ∙ bit_at-zero i) ∙ sym (bit_at-zero i))
+  bits_of_none empty = same_from_bits bits 0 (λ i. bits_above i (λ u v. ap (λ (xs : List ℕ). bit_at (pair_count batch xs u v) i) empty ∙ bit_at-zero i)
+      ∙ sym (bit_at-zero i))

@@ -19,7 +19,8 @@ use Rattle.euler_split.proofs.Masks.{none_at}
 use Rattle.euler_split.proofs.Dealt.{is_split}
 
 -- the transfers of a pair in two parts
-pairs_together : (g : List Transfer) (whole left right : List ℕ) → IsPermutation whole (left ++ right) → (u v : ℕ) → pair_count g left u v + pair_count g right u v ≡ pair_count g whole u v
+pairs_together : (g : List Transfer) (whole left right : List ℕ) → IsPermutation whole (left ++ right) → (u v : ℕ) → pair_count g left u v + pair_count g right
+    u v ≡ pair_count g whole u v
 pairs_together g whole left right parts u v =
     let one : ℕ → ℕ = λ t. bit (uses_pair g u v t) in
     omega (arith, sum_by-append one left right, sum_by-IsPermutation one whole (left ++ right) parts)
@@ -32,13 +33,22 @@ bit_small : (x : Bool) → bit x < 2
 bit_small true = omega arith
 bit_small false = omega arith
 
-module _ (g : List Transfer) (whole now left right : List ℕ) (even : CanBeHalved g whole 1) (dealt : AreDealt g whole (length whole) (replicate MAX_MODULES 0) now left right) where
+module _ (g : List Transfer) (whole now left right : List ℕ) (even : CanBeHalved g whole 1)
+    (dealt : AreDealt g whole (length whole) (replicate MAX_MODULES 0) now left right) where
   parts : IsPermutation whole (left ++ right)
   parts = rw take-length at dealt.parts
 
   -- no turn is left over
   none_left : (u v : ℕ) → bit (has_pair now u v) ≡ 0
-  none_left u v = omega (arith, dealt.pairs u v, ap bit (no_pair MAX_MODULES u v), pairs_together g whole left right parts u v, even u v 0 (omega arith), bit_at_lowest (pair_count g whole u v), bit_small (has_pair now u v))
+  none_left u v = omega (
+    arith,
+    dealt.pairs u v,
+    ap bit (no_pair MAX_MODULES u v),
+    pairs_together g whole left right parts u v,
+    even u v 0 (omega arith),
+    bit_at_lowest (pair_count g whole u v),
+    bit_small (has_pair now u v),
+  )
 
   pub same_pairs : HaveSamePairs g left right
   same_pairs u v = omega (arith, dealt.pairs u v, ap bit (no_pair MAX_MODULES u v), none_left u v)
@@ -57,8 +67,10 @@ module _ (g : List Transfer) (whole now left right : List ℕ) (even : CanBeHalv
   halves_are = is_split g whole now (replicate MAX_MODULES 0) now left right (λ u v. grind (arith, dealt.turned u v, no_pair MAX_MODULES u v)) halved dealt
 
 -- what can be halved once more than its halves
-pub halves_less : (g : List Transfer) (whole left right : List ℕ) (times : ℕ) → IsPermutation whole (left ++ right) → HaveSamePairs g left right → CanBeHalved g whole (times + 1) → CanBeHalved g left times × CanBeHalved g right times
+pub halves_less : (g : List Transfer) (whole left right : List ℕ) (times : ℕ) → IsPermutation whole (left ++ right) → HaveSamePairs g left right
+    → CanBeHalved g whole (times + 1) → CanBeHalved g left times × CanBeHalved g right times
 halves_less g whole left right times parts same even =
     let half : (u v : ℕ) → pair_count g left u v ≡ pair_count g whole u v / 2 = λ u v. omega (arith, pairs_together g whole left right parts u v, same u v) in
-    let less : (u v i : ℕ) → i < times → bit_at (pair_count g left u v) i ≡ 0 = λ u v i lt. ap (λ (n : ℕ). bit_at n i) (half u v) ∙ (sym (bit_at-suc (pair_count g whole u v) i) ∙ even u v (suc i) (omega arith)) in
+    let less : (u v i : ℕ) → i < times → bit_at (pair_count g left u v) i ≡ 0 = λ u v i lt. ap (λ (n : ℕ). bit_at n i) (half u v)
+    ∙ (sym (bit_at-suc (pair_count g whole u v) i) ∙ even u v (suc i) (omega arith)) in
     (less, λ u v i lt. ap (λ (n : ℕ). bit_at n i) (sym (same u v)) ∙ less u v i lt)

@@ -12,7 +12,8 @@ use Rattle.euler_split.specs.Trails.{pairs_of_module, end_of}
 
 -- ---- counts
 
-count_sum : (n : ℕ) (p q r s : ℕ → Bool) → ((i : ℕ) → bit (p i) + bit (q i) ≡ bit (r i) + bit (s i)) → count_below n p + count_below n q ≡ count_below n r + count_below n s
+count_sum : (n : ℕ) (p q r s : ℕ → Bool) → ((i : ℕ) → bit (p i) + bit (q i) ≡ bit (r i) + bit (s i)) → count_below n p + count_below n q
+    ≡ count_below n r + count_below n s
 count_sum zero p q r s h = refl
 count_sum (suc n) p q r s h = omega (arith, h n, count_sum n p q r s h)
 
@@ -25,7 +26,8 @@ all_counted k n c k_in = grind (arith, nat_tests)
 
 -- ---- pairs at a link
 
-pub pairs_sum : (f g h k : ℕ → ℕ → Bool) → ((u v : ℕ) → bit (f u v) + bit (g u v) ≡ bit (h u v) + bit (k u v)) → (e : End) (m : ℕ) → pairs_of_module f e m + pairs_of_module g e m ≡ pairs_of_module h e m + pairs_of_module k e m
+pub pairs_sum : (f g h k : ℕ → ℕ → Bool) → ((u v : ℕ) → bit (f u v) + bit (g u v) ≡ bit (h u v) + bit (k u v)) → (e : End) (m : ℕ)
+    → pairs_of_module f e m + pairs_of_module g e m ≡ pairs_of_module h e m + pairs_of_module k e m
 unfolding pairs_of_module
 pairs_sum f g h k is Zero m = count_sum MAX_MODULES (λ v. f m v) (λ v. g m v) (λ v. h m v) (λ v. k m v) (λ v. is m v)
 pairs_sum f g h k is Three m = count_sum MAX_MODULES (λ u. f u m) (λ u. g u m) (λ u. h u m) (λ u. k u m) (λ u. is u m)
@@ -48,11 +50,16 @@ single c at u v = (c && at Zero == u) && at Three == v
 module _ (at : End → ℕ) (low : (e : End) → at e < MAX_MODULES) where
   single_at : (c : Bool) (e : End) (m : ℕ) → pairs_of_module (single c at) e m ≡ bit (c && at e == m)
   unfolding pairs_of_module
-  single_at c Zero m = count_one MAX_MODULES (at Three) (c && at Zero == m) (λ v. single c at m v) (λ i. refl) ∙ all_counted (at Three) MAX_MODULES (c && at Zero == m) (low Three)
-  single_at c Three m = count_one MAX_MODULES (at Zero) (c && at Three == m) (λ u. single c at u m) (λ i. grind (arith, nat_tests)) ∙ all_counted (at Zero) MAX_MODULES (c && at Three == m) (low Zero)
+  single_at c Zero m = count_one MAX_MODULES (at Three) (c && at Zero == m) (λ v. single c at m v) (λ i. refl) ∙ all_counted (at Three) MAX_MODULES
+      (c && at Zero == m) (low Three)
+  single_at c Three m = count_one MAX_MODULES (at Zero) (c && at Three == m) (λ u. single c at u m) (λ i. grind (arith, nat_tests))
+      ∙ all_counted (at Zero) MAX_MODULES (c && at Three == m) (low Zero)
 
   -- a pair that goes out or comes in is one at both of its links
-  pub pairs_toggled : (c : Bool) (f g : ℕ → ℕ → Bool) → ((u v : ℕ) → g u v ≡ cond (c && (at Zero == u && at Three == v)) (not (f u v)) (f u v)) → (e : End) (m : ℕ) → pairs_of_module g e m + bit ((c && f (at Zero) (at Three)) && at e == m) ≡ pairs_of_module f e m + bit ((c && not (f (at Zero) (at Three))) && at e == m)
+  pub pairs_toggled : (c : Bool) (f g : ℕ → ℕ → Bool) → ((u v : ℕ) → g u v ≡ cond (c && (at Zero == u && at Three == v)) (not (f u v)) (f u v))
+      → (e : End) (m : ℕ) → pairs_of_module g e m + bit ((c && f (at Zero) (at Three)) && at e == m)
+      ≡ pairs_of_module f e m + bit ((c && not (f (at Zero) (at Three))) && at e == m)
   pairs_toggled c f g is e m =
       let was : Bool = f (at Zero) (at Three) in
-      rw (← single_at (c && was) e m, ← single_at (c && not was) e m) (pairs_sum g (single (c && was) at) f (single (c && not was) at) (λ u v. grind (arith, nat_tests, is u v)) e m)
+      rw (← single_at (c && was) e m, ← single_at (c && not was) e m)
+      (pairs_sum g (single (c && was) at) f (single (c && not was) at) (λ u v. grind (arith, nat_tests, is u v)) e m)

@@ -22,11 +22,16 @@ pub module_is : (g : List Transfer) (e : End) (t : ℕ) (x : Transfer) → t < l
 unfolding module_in
 module_is g e t x t_in here = get_or-map (module_at e) g t x 0 t_in ∙ ap (module_at e) (get_or_from_slice_get g t x x here)
 
-pub ends_modules : (g : List Transfer) (t : ℕ) (r : Link × Link) → t < length g → option_map (λ (x : Transfer). let p : Link × Link = (start_link x, answer_link x) in p) (slice_get g t) ≡ Some r → (r.0.«module» ≡ module_in g Zero t) × (r.1.«module» ≡ module_in g Three t)
+pub ends_modules : (g : List Transfer) (t : ℕ) (r : Link × Link) → t < length g
+    → option_map (λ (x : Transfer). let p : Link × Link = (start_link x, answer_link x) in p) (slice_get g t) ≡ Some r → (r.0.«module» ≡ module_in g Zero t)
+    × (r.1.«module» ≡ module_in g Three t)
 ends_modules g t r t_in is =
     let known = known_transfer g t t_in in
-    let same = same_Some _ r (rw known.1 at is) in
-    (ap (λ (p : Link × Link). p.0.«module») (sym same) ∙ sym (module_is g Zero t known.0 t_in known.1), ap (λ (p : Link × Link). p.1.«module») (sym same) ∙ sym (module_is g Three t known.0 t_in known.1))
+    let same = same_Some _ r (rw known.1 at is) in (
+      ap (λ (p : Link × Link). p.0.«module») (sym same) ∙ sym (module_is g Zero t known.0 t_in known.1),
+      ap (λ (p : Link × Link). p.1.«module») (sym same)
+          ∙ sym (module_is g Three t known.0 t_in known.1),
+    )
 
 module_low : (x : Transfer) (e : End) → (x.initiator < MAX_MODULES) × (x.responder < MAX_MODULES) → module_at e x < MAX_MODULES
 module_low x Zero low = low.0

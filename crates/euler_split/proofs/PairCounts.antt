@@ -1,5 +1,5 @@
--- How many pairs masks have: a pair that is taken out is one fewer, and one that changes at most one
--- more.
+-- How many pairs masks have: a pair that is taken out is one fewer, and one that changes at most
+-- one more.
 use Rattle.std.proofs.Common.{◌≡◌, ℕ, zero, suc, ◌+◌, ◌<◌, ◌≤◌, ltb, List, Bool, true, false, not, ◌&&◌, refl, arith}
 use Rattle.std.proofs.lemmas.Bool.Decides.{nat_tests}
 use Rattle.batch.specs.declared.limits.TheConstants.{MAX_MODULES}

@@ -1,6 +1,7 @@
 -- A walk from partner to partner, by the two ends in turn, that puts them into the two halves in
 -- turn.
-use Rattle.std.proofs.Common.{◌≡◌, ◌≢◌, ℕ, ◌+◌, ◌<◌, ◌⊎◌, inl, inr, List, length, get_or, set, Option, Some, None, IsSome, is_some, Bool, true, false, not, refl, sym, ap, ◌∙◌, subst, get_or-set_same, get_or-set_other, below_more}
+use Rattle.std.proofs.Common.{◌≡◌, ◌≢◌, ℕ, ◌+◌, ◌<◌, ◌⊎◌, inl, inr, List, length, get_or, set, Option, Some, None, IsSome, is_some, Bool, true, false, not, refl, sym, ap, ◌∙◌, subst, get_or-set_same}
+use Rattle.std.proofs.Common.{get_or-set_other, below_more}
 use Rattle.std.proofs.lemmas.List.{get_or_past}
 use Rattle.std.proofs.lemmas.Option.{same_Some, none-some}
 use Rattle.std.proofs.lemmas.Bool.{cases_eq, cases_lt, true≢false, false≢true}
@@ -28,7 +29,8 @@ end_cases Three Zero = inr refl
 end_cases Three Three = inl refl
 
 -- what a write leaves
-pub at_written : (h : List (Option Bool)) (w u : ℕ) (v : Option Bool) → w < length h → ((u ≡ w) × (half_at (set h w v) u ≡ v)) ⊎ ((u ≢ w) × (half_at (set h w v) u ≡ half_at h u))
+pub at_written : (h : List (Option Bool)) (w u : ℕ) (v : Option Bool) → w < length h → ((u ≡ w) × (half_at (set h w v) u ≡ v))
+    ⊎ ((u ≢ w) × (half_at (set h w v) u ≡ half_at h u))
 at_written h w u v within = elim (cases_eq u w) [
   | inl same ↦ inl (same, subst (λ x. half_at (set h w v) x ≡ v) (sym same) (get_or-set_same h w v None within))
   | inr apart ↦ inr (apart, get_or-set_other h w u v None apart)
@@ -52,11 +54,13 @@ module _ (zs ts : List (Option ℕ)) (pz : ArePartners zs) (pt : ArePartners ts)
 
 module _ (zs ts : List (Option ℕ)) (pz : ArePartners zs) (pt : ArePartners ts) (s : ℕ) (first : End) where
   -- one more place is put into the half that the last isn't in
-  pub walk_on : (h : List (Option Bool)) (at v : ℕ) (e : End) (x : Bool) → IsWalk zs ts s first h at e → partner_at zs ts e at ≡ Some v → v < length h → half_at h v ≡ None → half_at h at ≡ Some x → IsWalk zs ts s first (set h v (Some (not x))) v (other_end e)
+  pub walk_on : (h : List (Option Bool)) (at v : ℕ) (e : End) (x : Bool) → IsWalk zs ts s first h at e → partner_at zs ts e at ≡ Some v → v < length h
+      → half_at h v ≡ None → half_at h at ≡ Some x → IsWalk zs ts s first (set h v (Some (not x))) v (other_end e)
   walk_on h at v e x w p v_in out is =
       let now : List (Option Bool) = set h v (Some (not x)) in
       let new : half_at now v ≡ Some (not x) = get_or-set_same h v (Some (not x)) None v_in in
-      let kept : (u : ℕ) (y : Bool) → half_at h u ≡ Some y → half_at now u ≡ Some y = λ u y old. get_or-set_other h v u (Some (not x)) None (differs h u v y old out) ∙ old in
+      let kept : (u : ℕ) (y : Bool) → half_at h u ≡ Some y → half_at now u ≡ Some y = λ u y old. get_or-set_other h v u (Some (not x)) None
+      (differs h u v y old out) ∙ old in
       record {
         start = kept s true w.start;
         here = (not x, new);
@@ -64,7 +68,8 @@ module _ (zs ts : List (Option ℕ)) (pz : ArePartners zs) (pt : ArePartners ts)
         met = λ u t o q some. elim (at_written h v u (Some (not x)) v_in) [
           | inl fresh ↦ elim (end_cases o e) [
             | inl same ↦
-                let back : t ≡ at = same_Some t at (sym q ∙ (ap (λ m. partner_at zs ts m u) same ∙ (ap (partner_at zs ts e) fresh.0 ∙ mutual_at zs ts pz pt e at v p))) in
+                let back : t ≡ at = same_Some t
+                at (sym q ∙ (ap (λ m. partner_at zs ts m u) same ∙ (ap (partner_at zs ts e) fresh.0 ∙ mutual_at zs ts pz pt e at v p))) in
                 inl (record {
                   opposed = λ y is_y.
                       let y_is : y ≡ not x = same_Some y (not x) (sym is_y ∙ fresh.1) in
@@ -91,7 +96,8 @@ module _ (zs ts : List (Option ℕ)) (pz : ArePartners zs) (pt : ArePartners ts)
       }
 
   -- at the end of a walk: no partner, or one that is in a half already
-  pub walk_closed : (h : List (Option Bool)) (at : ℕ) (e : End) → IsWalk zs ts s first h at e → ((v : ℕ) → partner_at zs ts e at ≡ Some v → IsSome (half_at h v)) → IsClosed zs ts s first h
+  pub walk_closed : (h : List (Option Bool)) (at : ℕ) (e : End) → IsWalk zs ts s first h at e
+      → ((v : ℕ) → partner_at zs ts e at ≡ Some v → IsSome (half_at h v)) → IsClosed zs ts s first h
   walk_closed h at e w stop = record {
     met = λ u v o q some. elim (w.met u v o q some) [
       | inl m ↦ inl m
@@ -128,7 +134,8 @@ keeps_then h i j a b = record { kept = λ u x at. b.kept u x (a.kept u x at) }
 
 module _ (zs ts : List (Option ℕ)) where
   -- a new walk begins at a place that is in no half
-  pub first_walk : (h : List (Option Bool)) (n s : ℕ) → IsHalved zs ts n h → s < length h → half_at h s ≡ None → IsWalk zs ts s Three (set h s (Some true)) s Three
+  pub first_walk : (h : List (Option Bool)) (n s : ℕ) → IsHalved zs ts n h → s < length h → half_at h s ≡ None → IsWalk zs ts s Three (set h s (Some true)) s
+      Three
   first_walk h n s all s_in out =
       let now : List (Option Bool) = set h s (Some true) in
       let new : half_at now s ≡ Some true = get_or-set_same h s (Some true) None s_in in
@@ -158,7 +165,8 @@ module _ (zs ts : List (Option ℕ)) where
   }
 
   -- then one place more is done
-  pub one_more : (h now : List (Option Bool)) (n : ℕ) → IsHalved zs ts n h → Keeps h now → IsSome (half_at now n) → length now ≡ length h → IsClosed zs ts n Zero now → IsHalved zs ts (n + 1) now
+  pub one_more : (h now : List (Option Bool)) (n : ℕ) → IsHalved zs ts n h → Keeps h now → IsSome (half_at now n) → length now ≡ length h
+      → IsClosed zs ts n Zero now → IsHalved zs ts (n + 1) now
   one_more h now n all keeps here len closed = record {
     sized = len ∙ all.sized;
     done = below_more _ _ (λ u below. let x = some_of (half_at h u) (all.done u below) in subst IsSome (sym (keeps.kept u x.0 x.1)) refl) here;

@@ -1,5 +1,6 @@
 -- Members dealt to two halves by turns.
-use Rattle.std.specs.Prelude.{◌≡◌, ℕ, zero, suc, ◌+◌, List, ◌++◌, take, Option, Bool, false, not, cond}
+use Rattle.std.specs.Prelude.{◌≡◌, ℕ, zero, suc, ◌+◌, List, ◌++◌, take, Option, Bool, false, not}
+use Rattle.std.specs.Prelude.{cond}
 use Rattle.std.specs.Option.{unwrap_or}
 use Rattle.std.specs.List.Sorted.{IsPermutation}
 use Rattle.batch.specs.declared.transfer.Transfer.{Transfer}

@@ -1,6 +1,7 @@
 -- Transfers of which each pair of links has an even number, or one that can be halved several
 -- times.
-use Rattle.std.specs.Prelude.{◌≡◌, ◌↔◌, ℕ, ◌+◌, ◌*◌, ◌<◌, List, length, ◌==◌, ◌&&◌, Bool, count_by, slice_index}
+use Rattle.std.specs.Prelude.{◌≡◌, ◌↔◌, ℕ, ◌+◌, ◌*◌, ◌<◌, List, length, ◌==◌, ◌&&◌, Bool, count_by}
+use Rattle.std.specs.Prelude.{slice_index}
 use Rattle.std.specs.Int.{bit_at}
 use Rattle.batch.specs.declared.limits.TheConstants.{MAX_MODULES}
 use Rattle.batch.specs.declared.transfer.Transfer.{Transfer}

@@ -1,6 +1,7 @@
 -- Places, each of them at a link, that are paired two by two at each link. The places of a list of
 -- transfers are at the links of one end; a link is told by its module.
-use Rattle.std.specs.Prelude.{◌≡◌, ◌≢◌, ◌==◌, ℕ, ◌+◌, ◌≤◌, List, length, map, Option, Some, None, Bool, ◌&&◌, not, slice_index, slice_index_or, set}
+use Rattle.std.specs.Prelude.{◌≡◌, ◌≢◌, ◌==◌, ℕ, ◌+◌, ◌≤◌, List, length, map, Option, Some, None}
+use Rattle.std.specs.Prelude.{Bool, ◌&&◌, not, slice_index, slice_index_or, set}
 use Rattle.batch.specs.declared.transfer.Transfer.{Transfer}
 use Rattle.link_graph.specs.declared.link.End.{End}
 use Rattle.link_graph.specs.Counts.{count_below, module_at}

@@ -1,6 +1,7 @@
 -- Walks along pairs of a link 0 and a link 3, by which these fall into a left half and a right one.
 -- `untaken` are the pairs that no walk has taken yet, `left_half` are those of the left half.
-use Rattle.std.specs.Prelude.{◌≡◌, ℕ, zero, suc, ◌+◌, ◌-◌, ◌*◌, ◌≤◌, ◌⊎◌, List, Bool, true, false, not, ◌==◌, cond}
+use Rattle.std.specs.Prelude.{◌≡◌, ℕ, zero, suc, ◌+◌, ◌-◌, ◌*◌, ◌≤◌, ◌⊎◌, List, Bool, true, false}
+use Rattle.std.specs.Prelude.{not, ◌==◌, cond}
 use Rattle.batch.specs.declared.limits.TheConstants.{MAX_MODULES}
 use Rattle.link_graph.specs.declared.link.End.{End}
 use Rattle.link_graph.specs.declared.link.End.TheVariants.{Zero, Three}

@@ -1,6 +1,7 @@
 -- Walks from partner to partner, by the two ends in turn, that put places into the two halves in
 -- turn.
-use Rattle.std.specs.Prelude.{◌≡◌, ℕ, ◌<◌, ◌⊎◌, List, length, Option, Some, None, IsSome, Bool, true, false, not, slice_index_or}
+use Rattle.std.specs.Prelude.{◌≡◌, ℕ, ◌<◌, ◌⊎◌, List, length, Option, Some, None, IsSome, Bool}
+use Rattle.std.specs.Prelude.{true, false, not, slice_index_or}
 use Rattle.link_graph.specs.declared.link.End.{End}
 use Rattle.link_graph.specs.declared.link.End.TheVariants.{Zero, Three}
 

@@ -10,11 +10,11 @@ ghost use Rattle.link_graph.specs.Masks.{has_pair};
 ghost use Rattle.euler_split.specs.Masks.{AreToggled};
 ghost use Rattle.euler_split.specs.Deals.{odd_among, AreDealt};
 
-use crate::pairs::{Masks, Pairs, has, toggle};
+use crate::pairs::{Pairs, toggle};
 use crate::scratch::Scratch;
 use crate::trails::left_of;
 use batch::MAX_TRANSFERS;
-use link_graph::LinkGraph;
+use link_graph::{LinkGraph, Masks, has_module};
 use std::alloc::{AllocError, Global};
 use step_count::Steps;
 
@@ -47,7 +47,7 @@ fn take_turn(graph: &LinkGraph, turns: &mut Masks, t: usize) -> bool
         (module_in graph.now Zero t) (module_in graph.now Three t) }
 {
     let (start, answer) = graph.ends_of(t);
-    let is_left = has(turns, start.module, answer.module);
+    let is_left = has_module(turns[start.module], answer.module);
     toggle(turns, start.module, answer.module);
     is_left
 }

@@ -1,31 +1,11 @@
 //! Pairs of a link 0 and a link 3, as masks.
 
 ghost use Rattle.std.specs.Prelude.{◌≡◌, ℕ, ◌<◌, true, false, sum};
-ghost use Rattle.link_graph.specs.Masks.{has_bit, has_pair};
+ghost use Rattle.link_graph.specs.Masks.{has_pair};
 ghost use Rattle.euler_split.specs.Masks.{toggled, AreMirrored, AreToggled};
 
 use batch::MAX_MODULES;
-
-/// A mask of modules for each module.
-pub(crate) type Masks = [u32; MAX_MODULES];
-
-/// The least module of a mask that has any.
-pub(crate) fn lowest(mask: u32) -> usize
-    requires { 0 < mask }
-    ensures within { result < MAX_MODULES }
-    ensures has { has_bit mask result ≡ true }
-{
-    mask.trailing_zeros() as usize
-}
-
-/// Whether the masks have a pair of modules.
-pub(crate) fn has(masks: &Masks, module: usize, other: usize) -> bool
-    requires module { «module» < MAX_MODULES }
-    requires other { other < MAX_MODULES }
-    ensures { result ≡ has_pair masks.now «module» other }
-{
-    masks[module] >> other & 1 == 1
-}
+use link_graph::Masks;
 
 /// Takes a pair of modules out where the masks have it, and else puts it in. Without it the masks
 /// are less, as numbers.

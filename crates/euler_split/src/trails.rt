@@ -6,10 +6,12 @@ ghost use Rattle.link_graph.specs.declared.link.End.TheVariants.{Zero};
 ghost use Rattle.link_graph.specs.Links.{other_end};
 ghost use Rattle.batch.specs.declared.limits.TheConstants.{MAX_MODULES};
 ghost use Rattle.link_graph.specs.Masks.{has_pair};
-ghost use Rattle.euler_split.specs.Trails.{end_of, AreEven, no_surplus, is_left_next, walk_surplus, AreHalved, pairs_left};
+ghost use Rattle.euler_split.specs.Trails.{end_of, AreEven, no_surplus, is_left_next, walk_surplus};
+ghost use Rattle.euler_split.specs.Trails.{AreHalved, pairs_left};
 
-use crate::pairs::{Masks, Pairs, lowest, toggle};
+use crate::pairs::{Pairs, toggle};
 use batch::MAX_MODULES;
+use link_graph::{Masks, lowest};
 use step_count::Steps;
 
 /// Takes a pair that is untaken, and puts it into the left half or not. A walk

@@ -11,7 +11,8 @@ use Rattle.exchange.specs.Notes.{IsBeside, IsTooWide, IsWarning}
 use Rattle.exchange.specs.Warnings.{HasToldWarned, IsWarnedOnce, MayHaveWarned}
 use Rattle.exchange.specs.declared.warned.WarningObserver.{WarningObserver}
 
-once_more : {I O E : Type 0} (contents : E → Option (List ℕ)) (a b c : WarningObserver I O E) → IsWarnedOnce contents a b → IsWarnedOnce contents b c → IsWarnedOnce contents a c
+once_more : {I O E : Type 0} (contents : E → Option (List ℕ)) (a b c : WarningObserver I O E) → IsWarnedOnce contents a b → IsWarnedOnce contents b c
+    → IsWarnedOnce contents a c
 once_more {I} {O} {E} contents a b c first second =
     let loan = second.0 ∙ first.0 in
     elim second.1 [
@@ -26,13 +27,16 @@ once_more {I} {O} {E} contents a b c first second =
     ]
 
 pub tells_beside : {I O E : Type 0} (remaining : I → Option (List ℕ)) (contents : O → Option (List ℕ)) (beside : E → Option (List ℕ))
-    → TellsBeside remaining contents (λ (a : WarningObserver I O E) n ns c b. HasToldWarned remaining contents beside n ns c a b) (λ (w : WarningObserver I O E). w.lines) (IsWarnedOnce beside)
+    → TellsBeside remaining contents (λ (a : WarningObserver I O E) n ns c b. HasToldWarned remaining contents beside n ns c a b)
+    (λ (w : WarningObserver I O E). w.lines) (IsWarnedOnce beside)
 tells_beside {I} {O} {E} remaining contents beside =
     record { none = λ s. (refl, inl (refl, refl)); more = once_more beside; tells = λ a n ns cue b told. told }
 
 -- so it may have been told after what stood there
-pub may_have : {I O E : Type 0} (contents : E → Option (List ℕ)) (told tells : WarningObserver I O E) (warning : Option (String Global)) (before after : Option (List ℕ))
-    → told.warning ≡ warning → contents told.err.now ≡ before → after ≡ contents tells.err.now → IsWarnedOnce contents told tells → MayHaveWarned warning before after
+pub may_have : {I O E : Type 0} (contents : E → Option (List ℕ)) (told tells : WarningObserver I O E) (warning : Option (String Global))
+    (before after : Option (List ℕ))
+    → told.warning ≡ warning → contents told.err.now ≡ before → after ≡ contents tells.err.now → IsWarnedOnce contents told tells
+    → MayHaveWarned warning before after
 may_have {I} {O} {E} contents told tells warning before after is was now once =
     elim once.1 [
       | inl same ↦ inl (now ∙ same.1 ∙ was)
@@ -40,20 +44,24 @@ may_have {I} {O} {E} contents told tells warning before after is was now once =
     ]
 
 -- such a line may stand beside an answer
-pub beside_by : (cause : Type 0) (request : Request) (warning : Option (String Global)) (before after : Option (List ℕ)) → IfSome warning (IsWarning cause request) → MayHaveWarned warning before after → IsBeside cause request before after
+pub beside_by : (cause : Type 0) (request : Request) (warning : Option (String Global)) (before after : Option (List ℕ))
+    → IfSome warning (IsWarning cause request) → MayHaveWarned warning before after → IsBeside cause request before after
 beside_by cause request warning before after is (inl same) = inl same
 beside_by cause request None before after is (inr warned) = let bad = warned.1 in absurd cc
 beside_by cause request (Some line) before after is (inr warned) =
     let one : warned.0 ≡ line = let so = warned.1 in cc in
     inr (inr (inr (inl (is.0, is.1, (string_bytes line, is.2, rw one at warned.2)))))
 
-pub warning_by : (cause : Type 0) (request : Request) (line : Option (String Global)) → request.is_quiet ≡ false → IfSome line (λ l. IsWholeLine (string_bytes l)) → IfSome line (λ l. cause) → IfSome line (IsWarning cause request)
+pub warning_by : (cause : Type 0) (request : Request) (line : Option (String Global)) → request.is_quiet ≡ false
+    → IfSome line (λ l. IsWholeLine (string_bytes l)) → IfSome line (λ l. cause) → IfSome line (IsWarning cause request)
 warning_by cause request None heard whole is = tt
 warning_by cause request (Some line) heard whole is = (heard, is, whole)
 
-pub wide_by : (drawing : Printed → Type 0) (drawn : Printed) (line : Option (String Global)) → drawing drawn → IfSome line (λ l. IsTooWide drawn.text) → IfSome line (λ l. (shown : Printed) × drawing shown × IsTooWide shown.text)
+pub wide_by : (drawing : Printed → Type 0) (drawn : Printed) (line : Option (String Global)) → drawing drawn → IfSome line (λ l. IsTooWide drawn.text)
+    → IfSome line (λ l. (shown : Printed) × drawing shown × IsTooWide shown.text)
 wide_by drawing drawn None is wide = tt
 wide_by drawing drawn (Some line) is wide = (drawn, is, wide)
 
-pub width_by : (front text size after : List ℕ) (width : ℕ) → text ≡ front ++ size → size ≡ number width 39 ++ after → (rest : List ℕ) × (text ≡ front ++ (decimal width ++ 39 ∷ rest))
+pub width_by : (front text size after : List ℕ) (width : ℕ) → text ≡ front ++ size → size ≡ number width 39 ++ after → (rest : List ℕ)
+    × (text ≡ front ++ (decimal width ++ 39 ∷ rest))
 width_by front text size after width parts read = (after, parts ∙ ap (λ (l : List ℕ). front ++ l) (read ∙ append_assoc (decimal width) (39 ∷ []) after))

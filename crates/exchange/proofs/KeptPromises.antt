@@ -19,8 +19,9 @@ use Rattle.command_words.specs.declared.uses.Access.TheVariants.{Read}
 use Rattle.command_words.proofs.OneRequest.{one_request}
 use Rattle.drive_answers.specs.Answers.{IsDriveAnswer}
 use Rattle.drive_answers.specs.Ways.{Ways}
-use Rattle.exchange.proofs.AskedJobs.{Answers, JobEnd, EndsSo, JobsCome, KeepsSo, SessionsCome, all_written, asks_nothing, cut_ends, ended_run, ends_well, jobs_come, keeps_apart, sessions_come, text_ends, the_run}
-use Rattle.exchange.proofs.EndStatuses.{IsEither, gave_up, never_done}
+use Rattle.exchange.proofs.AskedJobs.{Answers, JobEnd, EndsSo, JobsCome, KeepsSo, SessionsCome, all_written, asks_nothing, cut_ends, ended_run, ends_well, jobs_come, keeps_apart, sessions_come}
+use Rattle.exchange.proofs.AskedJobs.{text_ends, the_run}
+use Rattle.exchange.proofs.EndStatuses.{IsEither, gave_up, given_up, never_done}
 use Rattle.exchange.proofs.HeldFiles.{alone, earlier, held_files, pass}
 use Rattle.exchange.proofs.PromisedCalls.{Had, behind, before, clients_come, kept_named, none_begun, scripts_come, talk_comes}
 use Rattle.exchange.proofs.PromisedDrives.{DroveOr, cut_so, drove_so}
@@ -44,7 +45,6 @@ use Rattle.named_files.specs.Outputs.{no_write_failures, none_opened}
 use Rattle.named_files.specs.Streams.{Closed}
 use Rattle.named_files.specs.declared.write_failures.WriteFailures.{WriteFailures}
 use Rattle.named_files.specs.declared.outputs.Receipts.{Receipts}
-use Rattle.named_files.specs.declared.refusal_cause.RefusalCause.TheVariants as why
 use Rattle.plan_answers.specs.Refusals.{Printed}
 use Rattle.plan_answers.specs.declared.limits.TheConstants.{DONE, REFUSED}
 use Rattle.plan_answers.specs.declared.source.ScheduleSource.{ScheduleSource}
@@ -54,23 +54,28 @@ use Rattle.switch_driver.specs.Lines.{Dialogue, TellsLine}
 -- ---- sessions
 
 -- a record isn't written to standard input
-record_named : (rack : SharedRack) (job : SessionJob) (words : List Text) (quiet : Bool) → AskFor words (record { job = Sessions rack job; is_quiet = quiet }) → (out : RecordFile) → rack.record_out ≡ Some out → out.name ≢ input_name
+record_named : (rack : SharedRack) (job : SessionJob) (words : List Text) (quiet : Bool) → AskFor words (record { job = Sessions rack job; is_quiet = quiet })
+    → (out : RecordFile) → rack.record_out ≡ Some out → out.name ≢ input_name
 record_named rack job words quiet asks out is =
     let all = recursion_from_All MayHaveName (file_uses (Sessions rack job)) asks.job.files.each in
     let beside = behind MayHaveName (map (file Read) (files_read (Sessions rack job))) (files_beside (Sessions rack job)) all in
-    kept_named (recorded_in rack) rack.image_out out.name (ap (λ (o : Option RecordFile). option_map (λ (r : RecordFile). r.name) o) is) (before MayHaveName (kept_files rack) _ beside)
+    kept_named (recorded_in rack) rack.image_out out.name (ap (λ (o : Option RecordFile). option_map (λ (r : RecordFile). r.name) o) is)
+    (before MayHaveName (kept_files rack) _ beside)
 
 names_before : (front back : List Text) → AllByRecursion (λ n. n ≢ input_name) (front ++ back) → AllByRecursion (λ n. n ≢ input_name) front
 names_before [] back all = tt
 names_before (n ∷ front) back all = (all.0, names_before front back all.1)
 
 -- the image isn't standard input, so all of that is left for the client
-talk_reads : (holds : Holding) (input : Option (List ℕ)) (rack : SharedRack) (words : List Text) (quiet : Bool) → AskFor words (record { job = Sessions rack Talk; is_quiet = quiet }) → (files : Files (List ℕ)) (rest : Option (List ℕ)) → AreContents holds input (files_of (Sessions rack Talk)) files rest → rest ≡ input
+talk_reads : (holds : Holding) (input : Option (List ℕ)) (rack : SharedRack) (words : List Text) (quiet : Bool)
+    → AskFor words (record { job = Sessions rack Talk; is_quiet = quiet }) → (files : Files (List ℕ)) (rest : Option (List ℕ))
+    → AreContents holds input (files_of (Sessions rack Talk)) files rest → rest ≡ input
 talk_reads holds input rack words quiet asks files rest r =
     let lone = alone (files_read (Sessions rack Talk)) (files_beside (Sessions rack Talk)) asks.job.files.apart in
     let other = names_before (option_to_list rack.image) [] (earlier (option_to_list rack.image ++ []) input_name [] lone refl) in
     pass holds r.3 [] files.scripts rest tt r.8 ∙ (pass holds r.2 [] (option_to_list files.wiring) r.3 tt r.7
-    ∙ (pass holds r.1 [] (option_to_list files.schedule) r.2 tt r.6 ∙ (pass holds r.0 [] (option_to_list files.list) r.1 tt r.5 ∙ pass holds input (option_to_list rack.image) (option_to_list files.image) r.0 other r.4)))
+    ∙ (pass holds r.1 [] (option_to_list files.schedule) r.2 tt r.6
+    ∙ (pass holds r.0 [] (option_to_list files.list) r.1 tt r.5 ∙ pass holds input (option_to_list rack.image) (option_to_list files.image) r.0 other r.4)))
 
 known_came : (known : Option (List ℕ)) (came : List ℕ) → IfSome known (λ text. text ≡ came) → IfSome known (λ text. came ≡ text)
 known_came None came is = tt
@@ -78,7 +83,8 @@ known_came (Some text) came is = sym is
 
 -- ---- each job
 
-text_done : (w : World) (job : TextJob) (texts : Files (List ℕ)) (printed : Printed) → printed.status ≡ DONE → IsTextAnswer job texts printed → IsDone w (Texts job) texts printed.text
+text_done : (w : World) (job : TextJob) (texts : Files (List ℕ)) (printed : Printed) → printed.status ≡ DONE → IsTextAnswer job texts printed
+    → IsDone w (Texts job) texts printed.text
 text_done w (Plan file planning workers) texts printed done is = planned planning (text_in texts.list) printed done is
 text_done w (Check batch schedule) texts printed done is = checked (text_in texts.list) (text_in texts.schedule) printed done is
 text_done w (Draw batch schedule chosen) texts printed done is = drawn_so (text_in texts.list) (text_in texts.schedule) chosen is.0 printed done is.1
@@ -90,32 +96,65 @@ text_done w (Apply shape batch image workers) texts printed done is = applied sh
 text_done w (RunJob shape batch scheduled image workers) texts printed done is = ran_so shape scheduled texts printed done is
 text_done w (Replay shape recorded image first) texts printed done is = replayed_so shape (text_in texts.list) texts.image first printed is.0 is.1 done is.2
 
-module _ {C : Type 0} (received : C → Closed) (receipts : Receipts C) (comes : Text → Option (List ℕ)) (had : Text → List ℕ) (endings : List (Ending (List ℕ))) (named : Named) (given : Given) (known : given.clients ≡ clients_by comes had)
-    (words : List Text) (after : Ways) (prints : List ℕ → Type 0) (status : ℕ) (whole : Bool) (may : WriteFailures → Type 0) (none_lost : (lost : WriteFailures) → may lost → whole ≡ true → lost ≡ no_write_failures) where
+module _ {C : Type 0} (received : C → Closed) (receipts : Receipts C) (comes : Text → Option (List ℕ)) (had : Text → List ℕ) (endings : List (Ending (List ℕ)))
+    (named : Named) (given : Given) (known : given.clients ≡ clients_by comes had)
+    (words : List Text) (after : Ways) (prints : List ℕ → Type 0) (status : ℕ) (whole : Bool) (may : WriteFailures → Type 0)
+    (none_lost : (lost : WriteFailures) → may lost → whole ≡ true → lost ≡ no_write_failures) where
   abbrev The : Run
   The = the_run named given words prints status
 
   abbrev W : World
   W = record { run = The; whole = whole; before = given.ports; after = after; kept = saved_by received receipts; clients = clients_of comes had endings }
 
-  by_name : (rack : SharedRack) (job : SessionJob) → AsksFor The (Sessions rack job) → (out : RecordFile) (text : List ℕ) → rack.record_out ≡ Some out → named.holds out.name text → The.holds out.name text
+  by_name : (rack : SharedRack) (job : SessionJob) → AsksFor The (Sessions rack job) → (out : RecordFile) (text : List ℕ) → rack.record_out ≡ Some out
+      → named.holds out.name text → The.holds out.name text
   by_name rack job asks out text is holds = (λ input. absurd (record_named rack job words asks.0 asks.1 out is input), λ other. holds)
 
-  had_so : SessionsCome named given received receipts (ends_of endings) may The → (rack : SharedRack) (job : SessionJob) → AsksFor The (Sessions rack job) → Had W rack job
+  had_so : SessionsCome named given received receipts (ends_of endings) may The → (rack : SharedRack) (job : SessionJob) → AsksFor The (Sessions rack job)
+      → Had W rack job
   had_so come rack (Serve scripts workers) asks = elim (come rack (Serve scripts workers) asks) [
-    | inl c ↦ scripts_come received receipts c.0 named given The whole after comes had endings (none_lost c.0 c.1) rack scripts workers (λ files rest reads. held_files words (record { job = Sessions rack (Serve scripts workers); is_quiet = asks.0 }) named.holds given.input files rest asks.1 reads) c.2
-    | inr none ↦ inr ((gave_up The why.NoMemory none.prints, none_begun received receipts no_write_failures named given The whole after comes had endings (λ all. refl) rack (Serve scripts workers) none), none.status)
+    | inl c ↦ scripts_come received receipts c.0 named given The whole after comes had endings (none_lost c.0 c.1) rack scripts workers
+        (λ files rest reads. held_files words (record { job = Sessions rack (Serve scripts workers); is_quiet = asks.0 }) named.holds given.input files rest
+        asks.1 reads) c.2
+    | inr none ↦ inr (
+      (
+        inl none.prints,
+        none_begun received receipts no_write_failures named given The whole after comes had endings
+            (λ all. refl) rack (Serve scripts workers) none,
+      ),
+      none.status,
+    )
   ]
   had_so come rack (Host names workers) asks = elim (come rack (Host names workers) asks) [
-    | inl c ↦ clients_come received receipts c.0 named given The whole after comes had endings (none_lost c.0 c.1) rack (by_name rack (Host names workers) asks) names workers (ap (λ clients. clients names) known)
-        (λ files rest reads. held_files words (record { job = Sessions rack (Host names workers); is_quiet = asks.0 }) named.holds given.input files rest asks.1 reads) c.2
-    | inr none ↦ inr ((gave_up The why.NoMemory none.prints, none_begun received receipts no_write_failures named given The whole after comes had endings (λ all. refl) rack (Host names workers) none), none.status)
+    | inl c ↦ clients_come received receipts c.0 named given The whole after comes had endings (none_lost c.0 c.1) rack (by_name rack (Host names workers) asks)
+        names workers (ap (λ clients. clients names) known)
+        (λ files rest reads. held_files words (record { job = Sessions rack (Host names workers); is_quiet = asks.0 }) named.holds given.input files rest asks.1
+        reads) c.2
+    | inr none ↦ inr (
+      (
+        inl none.prints,
+        none_begun received receipts no_write_failures named given The whole after comes had endings
+            (λ all. refl) rack (Host names workers) none,
+      ),
+      none.status,
+    )
   ]
   had_so come rack Talk asks = elim (come rack Talk asks) [
     | inl c ↦ talk_comes received receipts c.0 named given The whole after comes had endings (none_lost c.0 c.1) rack (by_name rack Talk asks)
-        (λ rest files reads came is. (λ same. known_came given.input came (subst (λ (o : Option (List ℕ)). IfSome o (λ text. text ≡ came)) (talk_reads named.holds given.input rack words asks.0 asks.1 files rest reads) is), λ other. absurd (other refl)))
+        (λ rest files reads came is. (
+          λ same. known_came given.input came
+              (subst (λ (o : Option (List ℕ)). IfSome o (λ text. text ≡ came)) (talk_reads named.holds given.input rack words asks.0 asks.1 files rest reads) is),
+          λ other. absurd (other refl),
+        ))
         (λ files rest reads. held_files words (record { job = Sessions rack Talk; is_quiet = asks.0 }) named.holds given.input files rest asks.1 reads) c.2
-    | inr none ↦ inr ((gave_up The why.NoMemory none.prints, none_begun received receipts no_write_failures named given The whole after comes had endings (λ all. refl) rack Talk none), none.status)
+    | inr none ↦ inr (
+      (
+        inl none.prints,
+        none_begun received receipts no_write_failures named given The whole after comes had endings
+            (λ all. refl) rack Talk none,
+      ),
+      none.status,
+    )
   ]
 
   -- a drive
@@ -123,7 +162,8 @@ module _ {C : Type 0} (received : C → Closed) (receipts : Receipts C) (comes :
     abbrev Drives : Job
     Drives = OverPorts (Drive batch port port_b from wiring first goes_on workers)
 
-    drove : AsksFor The Drives → JobsCome named given after The → Comes The Drives (DroveOr W (names_in port port_b) from first) ⊎ ((HasGivenUp The × (after ≡ given.ports)) × (status ≡ REFUSED))
+    drove : AsksFor The Drives → JobsCome named given after The → Comes The Drives (DroveOr W (names_in port port_b) from first)
+        ⊎ ((HasGivenUp The × (after ≡ given.ports)) × (status ≡ REFUSED))
     drove asks come = elim (come (record { job = Drives; is_quiet = asks.0 }) asks.1) [
       | inl r ↦ elim r.is [
         | inl comes ↦
@@ -137,34 +177,43 @@ module _ {C : Type 0} (received : C → Closed) (receipts : Receipts C) (comes :
               held_files words (record { job = Drives; is_quiet = asks.0 }) named.holds given.input is.0 is.1 asks.1 is.2,
               r.prints,
               drove_so W from first (names_in port port_b) is.0 goes_on start final r.response.end refl r.status
-                  (subst (λ (o : Ways). IsDriveAnswer (TellsLine (not goes_on)) (source_in from (text_in is.0.schedule)) (text_in is.0.list) is.0.wiring first (names_in port port_b) given.ports o start final r.response.end) r.ports_are by.1),
+                  (subst (λ (o : Ways). IsDriveAnswer (TellsLine (not goes_on)) (source_in from (text_in is.0.schedule)) (text_in is.0.list) is.0.wiring first
+                  (names_in port port_b) given.ports o start final r.response.end) r.ports_are by.1),
             )
         | inr none ↦
             let text = subst (λ (told : List ℕ). prints (told ++ r.response.end.text)) none.0 r.prints in
-            inr ((gave_up The none.4.0 (subst (λ (p : Printed). prints p.text) none.4.1 text), sym r.ports_are ∙ none.1), r.status ∙ ap (λ (p : Printed). p.status) none.4.1)
+            inr ((gave_up The r.response.end none.4 text, sym r.ports_are ∙ none.1), r.status ∙ given_up r.response.end none.4)
       ]
       | inr other ↦ elim other [
         | inl t ↦
             let is = t.cut in
             let c = cut_so W from first (names_in port port_b) is.0 goes_on is.1 is.3.0 t.told t.status is.3.1 in
-            inl (is.0, t.told ++ c.0, held_files words (record { job = Drives; is_quiet = asks.0 }) named.holds given.input is.0 is.1 asks.1 is.2, t.prints c.0, inl c.1)
-        | inr none ↦ inr ((gave_up The why.NoMemory none.prints, none.ports_are), none.status)
+            inl (
+              is.0,
+              t.told ++ c.0,
+              held_files words (record { job = Drives; is_quiet = asks.0 }) named.holds given.input is.0 is.1 asks.1 is.2,
+              t.prints c.0,
+              inl c.1,
+            )
+        | inr none ↦ inr ((inl none.prints, none.ports_are), none.status)
       ]
     ]
 
-  comes_as : {P Q : Files (List ℕ) → List ℕ → Type 0} (job : Job) → ((texts : Files (List ℕ)) (printed : List ℕ) → P texts printed → Q texts printed) → Comes The job P → Comes The job Q
+  comes_as : {P Q : Files (List ℕ) → List ℕ → Type 0} (job : Job) → ((texts : Files (List ℕ)) (printed : List ℕ) → P texts printed → Q texts printed)
+      → Comes The job P → Comes The job Q
   comes_as job so c = (c.0, c.1, c.2, c.3, so c.0 c.1 c.4)
 
   -- all jobs, where the status is that of an answer or of a refusal
-  pub keeps_jobs : Answers The → JobsCome named given after The → SessionsCome named given received receipts (ends_of endings) may The → (status ≢ MISUSED) → ((job : Job) → AsksFor The job → LeavesOthers W job) → KeepsJobs W
+  pub keeps_jobs : Answers The → JobsCome named given after The → SessionsCome named given received receipts (ends_of endings) may The → (status ≢ MISUSED)
+      → ((job : Job) → AsksFor The job → LeavesOthers W job) → KeepsJobs W
   keeps_jobs all come sessions used others (Texts job) asks = record {
     done = λ done. elim (all job asks) [
       | inl is ↦ (is.files, is.printed.text, is.held, is.prints, text_done W job is.files is.printed (sym is.status ∙ done) is.answer)
-      | inr gives_up ↦ absurd (never_done status gives_up.2 done)
+      | inr gives_up ↦ absurd (never_done status gives_up.1 done)
     ];
     refused = λ refused. elim (all job asks) [
       | inl is ↦ inl (is.files, is.printed.text, is.held, is.prints, wrong_of job is.files is.printed is.answer (sym is.status ∙ refused))
-      | inr gives_up ↦ inr (gave_up The gives_up.0 gives_up.1, others (Texts job) asks)
+      | inr gives_up ↦ inr (gives_up.0, others (Texts job) asks)
     ];
     used = used;
     others = others (Texts job) asks;
@@ -215,29 +264,38 @@ either_used : (status : ℕ) → IsEither status → status ≢ MISUSED
 either_used status (inl done) misused = omega (arith, done, misused)
 either_used status (inr refused) misused = omega (arith, refused, misused)
 
-pub keeps_promises : {C : Type 0} (e : JobEnd) (after : Ways) (received : C → Closed) (receipts : Receipts C) (comes : Text → Option (List ℕ)) (had : Text → List ℕ) (endings : List (Ending (List ℕ))) → e.given.clients ≡ clients_by comes had
-    → ((job : Job) (response : Response) → e.keeps job response → response.ports ≡ after) → ((job : Job) (response : Response) → e.keeps job response → KeepsSo e.named.holds received receipts (ends_of endings) no_write_failures job response)
+pub keeps_promises : {C : Type 0} (e : JobEnd) (after : Ways) (received : C → Closed) (receipts : Receipts C) (comes : Text → Option (List ℕ))
+    (had : Text → List ℕ) (endings : List (Ending (List ℕ))) → e.given.clients ≡ clients_by comes had
+    → ((job : Job) (response : Response) → e.keeps job response → response.ports ≡ after)
+    → ((job : Job) (response : Response) → e.keeps job response → KeepsSo e.named.holds received receipts (ends_of endings) no_write_failures job response)
     → (e.none → (receipts ≡ none_opened) × (after ≡ e.given.ports) × (ends_of endings ≡ [])) → EndsSo e
-    → KeepsPromises e.named.leads (world_of (ended_run e) e.given.ports after (saved_by received receipts) (clients_of comes had endings)) (IsToldInPart e.streams.out_before e.streams.out_after)
+    → KeepsPromises e.named.leads (world_of (ended_run e) e.given.ports after (saved_by received receipts) (clients_of comes had endings))
+    (IsToldInPart e.streams.out_before e.streams.out_after)
 keeps_promises e after received receipts comes had endings known ports so none is =
     let come = sessions_come e received receipts (ends_of endings) so (λ n. ((none n).0, (none n).2)) is in
     record {
       one = one_request e.words;
       ends = ends_well e is;
-      jobs = λ job asks. keeps_jobs received receipts comes had endings e.named e.given known e.words after (Appends e.streams.out_before e.streams.out_after) e.code true (λ lost. lost ≡ no_write_failures) (λ lost same all. same)
-          (text_ends e is) (jobs_come e after ports (λ n. (none n).1) is) come (λ misused. asks_nothing e is (record { job = job; is_quiet = asks.0 }) asks.1 misused) (keeps_others received receipts comes had endings after e ports so none is) job asks;
+      jobs = λ job asks. keeps_jobs received receipts comes had endings e.named e.given known e.words after (Appends e.streams.out_before e.streams.out_after)
+          e.code true (λ lost. lost ≡ no_write_failures) (λ lost same all. same)
+          (text_ends e is) (jobs_come e after ports (λ n. (none n).1) is) come (λ misused. asks_nothing e is (record { job = job; is_quiet = asks.0 }) asks.1
+          misused) (keeps_others received receipts comes had endings after e ports so none is) job asks;
       apart = keeps_apart e is;
       nothing = keeps_nothing received receipts comes had endings after e ports so none is;
       fronts = λ unwritten. absurd (all_written e is unwritten);
     }
 
-pub keeps_in_part : {C : Type 0} (words : List Text) (named : Named) (after : Ways) (given : Given) (out_before out_after : Option (List ℕ)) (code : ℕ) (received : C → Closed) (receipts : Receipts C) (comes : Text → Option (List ℕ)) (had : Text → List ℕ) (endings : List (Ending (List ℕ)))
-    → given.clients ≡ clients_by comes had → code ≡ UNWRITTEN → IsCutFor named (leaving named.holds received receipts given.ports after (ends_of endings)) words given out_before out_after
-    → KeepsPromises named.leads (world_of (the_run named given words (Appends out_before out_after) code) given.ports after (saved_by received receipts) (clients_of comes had endings)) (IsToldInPart out_before out_after)
+pub keeps_in_part : {C : Type 0} (words : List Text) (named : Named) (after : Ways) (given : Given) (out_before out_after : Option (List ℕ)) (code : ℕ)
+    (received : C → Closed) (receipts : Receipts C) (comes : Text → Option (List ℕ)) (had : Text → List ℕ) (endings : List (Ending (List ℕ)))
+    → given.clients ≡ clients_by comes had → code ≡ UNWRITTEN → IsCutFor named (leaving named.holds received receipts given.ports after (ends_of endings)) words
+    given out_before out_after
+    → KeepsPromises named.leads (world_of (the_run named given words (Appends out_before out_after) code) given.ports after (saved_by received receipts)
+    (clients_of comes had endings)) (IsToldInPart out_before out_after)
 keeps_in_part words named after given out_before out_after code received receipts comes had endings known unwritten is =
     let run = the_run named given words (Appends out_before out_after) code in
     let left = leaving named.holds received receipts given.ports after (ends_of endings) in
-    let cut = cut_ends received receipts (ends_of endings) words named left given out_before out_after (λ job response k. (k.0.0, (k.0.1, k.2))) (λ none. (none.0, none.2)) (λ job response k. k.1) (λ none. none.1) is in
+    let cut = cut_ends received receipts (ends_of endings) words named left given out_before out_after (λ job response k. (k.0.0, (k.0.1, k.2)))
+    (λ none. (none.0, none.2)) (λ job response k. k.1) (λ none. none.1) is in
     record {
       one = one_request words;
       ends = omega (arith, unwritten);
@@ -252,7 +310,9 @@ keeps_in_part words named after given out_before out_after code received receipt
       fronts = λ same. (
         cut.status,
         cut.either,
-        keeps_jobs received receipts comes had endings named given known words after (IsToldInPart out_before out_after) cut.status false (λ lost. ⊤) (λ lost may all. absurd (cc)) cut.texts cut.jobs cut.sessions (either_used cut.status cut.either)
-            (λ job asks. cut_others received receipts comes had endings after words named given out_before out_after (the_run named given words (IsToldInPart out_before out_after) cut.status) false is job asks.0 asks.1),
+        keeps_jobs received receipts comes had endings named given known words after (IsToldInPart out_before out_after) cut.status false (λ lost. ⊤)
+            (λ lost may all. absurd (cc)) cut.texts cut.jobs cut.sessions (either_used cut.status cut.either)
+            (λ job asks. cut_others received receipts comes had endings after words named given out_before out_after
+            (the_run named given words (IsToldInPart out_before out_after) cut.status) false is job asks.0 asks.1),
       );
     }

@@ -1,5 +1,6 @@
 -- The promise of `drive`.
-use Rattle.std.proofs.Common.{◌≡◌, ◌<◌, ◌≤◌, ◌+◌, ◌∙◌, ◌++◌, ℕ, zero, suc, Bool, true, false, not, List, [], ◌∷◌, length, Option, Some, None, Err, inl, inr, ◌⊎◌, refl, sym, ap, ap₂, subst, append_assoc, arith}
+use Rattle.std.proofs.Common.{◌≡◌, ◌<◌, ◌≤◌, ◌+◌, ◌∙◌, ◌++◌, ℕ, zero, suc, Bool, true, false, not, List, [], ◌∷◌, length, Option, Some, None, Err, inl, inr, ◌⊎◌, refl, sym, ap, ap₂, subst}
+use Rattle.std.proofs.Common.{append_assoc, arith}
 use Rattle.std.specs.Prelude.{◌==◌, codes}
 use Rattle.std.specs.List.{AllByRecursion}
 use Rattle.std.proofs.lemmas.List.{append-nil}
@@ -33,7 +34,8 @@ use Rattle.drive_answers.specs.Ways.{IsUnopened, Names, how_many, used}
 use Rattle.exchange.proofs.EndStatuses.{done_is}
 use Rattle.exchange.proofs.PromisedRuns.{scheduled}
 use Rattle.exchange.proofs.PromisedSwitches.{batch_of, schedule_of}
-use Rattle.exchange.specs.Promises.{AreNoWays, FilesSaySchedule, HasAnswered, HasDriven, IsFirstWrongOn, IsRefusalLine, IsWired, Stands, StoodInTurn, World, lines_told, lacking, no_setting, switches_of, texts_wrong, wiring_wrong}
+use Rattle.exchange.specs.Promises.{AreNoWays, FilesSaySchedule, HasAnswered, HasDriven, IsFirstWrongOn, IsRefusalLine, IsWired, Stands, StoodInTurn, World, lines_told, lacking, no_setting}
+use Rattle.exchange.specs.Promises.{switches_of, texts_wrong, wiring_wrong}
 use Rattle.exchange.specs.Responses.{source_in, text_in}
 use Rattle.link_graph.specs.Schedules.{IsScheduleOf}
 use Rattle.plan_answers.specs.Refusals.{IsRefused, Printed}
@@ -94,7 +96,8 @@ rest3 b x y z u = append_assoc (b ++ x ++ y) z u ∙ append_assoc (b ++ x) y (z 
 rest5 : (b v w x y z u : List Passing) → b ++ v ++ w ++ x ++ y ++ z ++ u ≡ b ++ (v ++ (w ++ (x ++ (y ++ (z ++ u)))))
 rest5 b v w x y z u = rest3 (b ++ v ++ w) x y z u ∙ append_assoc (b ++ v) w (x ++ (y ++ (z ++ u))) ∙ append_assoc b v (w ++ (x ++ (y ++ (z ++ u))))
 
-one_done : (wiring : Wiring) (standing : Option (List Pair)) (pairs : List Pair) (old : List Passing) (new : Option (List Passing)) → AreDone standing pairs (settled_steps ((A, wiring) ∷ [])) (Some old) new → Grows old new (AreAnswered ((A, wiring) ∷ []) pairs)
+one_done : (wiring : Wiring) (standing : Option (List Pair)) (pairs : List Pair) (old : List Passing) (new : Option (List Passing))
+    → AreDone standing pairs (settled_steps ((A, wiring) ∷ [])) (Some old) new → Grows old new (AreAnswered ((A, wiring) ∷ []) pairs)
 one_done wiring standing pairs old new d =
     let t = conversed A (turning wiring standing pairs) [] in
     let r = d.2.1 in
@@ -125,7 +128,8 @@ one_done wiring standing pairs old new d =
       );
     }
 
-both_done : (standing : Option (List Pair)) (pairs : List Pair) (old : List Passing) (new : Option (List Passing)) → AreDone standing pairs (settled_steps ((A, Forth) ∷ (B, Back) ∷ [])) (Some old) new → Grows old new (AreAnswered ((A, Forth) ∷ (B, Back) ∷ []) pairs)
+both_done : (standing : Option (List Pair)) (pairs : List Pair) (old : List Passing) (new : Option (List Passing))
+    → AreDone standing pairs (settled_steps ((A, Forth) ∷ (B, Back) ∷ [])) (Some old) new → Grows old new (AreAnswered ((A, Forth) ∷ (B, Back) ∷ []) pairs)
 both_done standing pairs old new d =
     let ta = conversed A (turning Forth standing pairs) [] in
     let tb = conversed B (turning Back standing pairs) [] in
@@ -178,7 +182,8 @@ both_done standing pairs old new d =
     }
 
 -- the switches of a rack, for its wiring
-setting_done : (board : Option BoardWiring) (wide : Bool) (standing : Option (List Pair)) (pairs : List Pair) (old : List Passing) (new : Option (List Passing)) → AreDone standing pairs (settled_steps (wirings_of (rack_for board wide))) (Some old) new → Grows old new (AreAnswered (switches_of board wide) pairs)
+setting_done : (board : Option BoardWiring) (wide : Bool) (standing : Option (List Pair)) (pairs : List Pair) (old : List Passing) (new : Option (List Passing))
+    → AreDone standing pairs (settled_steps (wirings_of (rack_for board wide))) (Some old) new → Grows old new (AreAnswered (switches_of board wide) pairs)
 setting_done (Some w) wide standing pairs old new d = one_done (Board w) standing pairs old new d
 setting_done None true standing pairs old new d = both_done standing pairs old new d
 setting_done None false standing pairs old new d = one_done Both standing pairs old new d
@@ -192,16 +197,22 @@ record Given (board : Option BoardWiring) (wide : Bool) (batch : List Transfer) 
 
 module _ (board : Option BoardWiring) (wide : Bool) (batch : List Transfer) (settings : List (List ℕ)) (g : Given board wide batch settings) where
   -- the pairs in order are those of the setting
-  in_order_is : (w : Wiring) → HasModulesOf (room_of w) batch → (k : ℕ) → k < length settings → switch_of w (pairs_at batch settings k) ≡ switch_of w (setting_pairs batch (numbers_in settings k))
-  in_order_is w has k lt = ordered_switch (room_of w) w batch (numbers_in settings k) (record { fits = g.fits; known = g.is.no_other k [] lt; matching = g.is.matchings k [] lt }) has (omega arith)
+  in_order_is : (w : Wiring) → HasModulesOf (room_of w) batch → (k : ℕ) → k < length settings → switch_of w (pairs_at batch settings k)
+      ≡ switch_of w (setting_pairs batch (numbers_in settings k))
+  in_order_is w has k lt = ordered_switch (room_of w) w batch (numbers_in settings k)
+      (record { fits = g.fits; known = g.is.no_other k [] lt; matching = g.is.matchings k [] lt }) has (omega arith)
 
-  turned_one : (chip : Chip) (w : Wiring) (k : ℕ) (pairs : List Pair) (passed : List Passing) → pairs ≡ pairs_at batch settings k → HasModulesOf (room_of w) batch → k < length settings → HasAnswered chip (switch_of w pairs) passed → HasAnswered chip (switch_of w (setting_pairs batch (numbers_in settings k))) passed
+  turned_one : (chip : Chip) (w : Wiring) (k : ℕ) (pairs : List Pair) (passed : List Passing) → pairs ≡ pairs_at batch settings k
+      → HasModulesOf (room_of w) batch → k < length settings → HasAnswered chip (switch_of w pairs) passed
+      → HasAnswered chip (switch_of w (setting_pairs batch (numbers_in settings k))) passed
   turned_one chip w k pairs passed same has lt a = subst (λ (s : Switch). HasAnswered chip s passed) (ap (switch_of w) same ∙ in_order_is w has k lt) a
 
-  turned_all : (k : ℕ) (pairs : List Pair) (passed : List Passing) → pairs ≡ pairs_at batch settings k → k < length settings → AreAnswered (switches_of board wide) pairs passed → Stands board wide batch settings k passed
+  turned_all : (k : ℕ) (pairs : List Pair) (passed : List Passing) → pairs ≡ pairs_at batch settings k → k < length settings
+      → AreAnswered (switches_of board wide) pairs passed → Stands board wide batch settings k passed
   turned_all k pairs passed same lt a = by_board board wide g.has a
     where
-      by_board : (b : Option BoardWiring) (two : Bool) → HasModulesOf (joined_on b two) batch → AreAnswered (switches_of b two) pairs passed → Stands b two batch settings k passed
+      by_board : (b : Option BoardWiring) (two : Bool) → HasModulesOf (joined_on b two) batch → AreAnswered (switches_of b two) pairs passed
+          → Stands b two batch settings k passed
       by_board None true has a = (turned_one A Forth k pairs passed same has lt a.0, (turned_one B Back k pairs passed same has lt a.1.0, tt))
       by_board None false has a = (turned_one A Both k pairs passed same has lt a.0, tt)
       by_board (Some w) two has a = (turned_one A (Board w) k pairs passed same has lt a.0, tt)
@@ -221,7 +232,8 @@ module _ (board : Option BoardWiring) (wide : Bool) (batch : List Transfer) (set
   one_more first n earlier new lt before (changed other d) = setting_done board wide _ _ earlier new d
   one_more first zero earlier new lt before (kept same nothing) = absurd (let bad : None ≡ Some (pairs_at batch settings (first + 0)) = same in cc)
   one_more first (suc m) earlier new lt before (kept same nothing) =
-      let pairs : pairs_at batch settings (first + m) ≡ pairs_at batch settings (first + suc m) = (let e : Some (pairs_at batch settings (first + m)) ≡ Some (pairs_at batch settings (first + suc m)) = same in cc) in
+      let pairs : pairs_at batch settings (first + m) ≡ pairs_at batch settings (first + suc m) =
+      (let e : Some (pairs_at batch settings (first + m)) ≡ Some (pairs_at batch settings (first + suc m)) = same in cc) in
       record {
         passed = earlier;
         more = [];
@@ -241,11 +253,19 @@ module _ (board : Option BoardWiring) (wide : Bool) (batch : List Transfer) (set
   }
   have_stood waits first (suc n) told tells new few none (mid, telling, before, stood, hears) =
       let t = have_stood waits first n told telling mid (omega arith) none before in
-      let grown = one_more first n t.passed new (omega arith) t.last (subst (λ (o : Option (List Passing)). Stood (rack_for board wide) batch settings first n o new) t.known stood) in
+      let grown = one_more first n t.passed new (omega arith) t.last
+      (subst (λ (o : Option (List Passing)). Stood (rack_for board wide) batch settings first n o new) t.known stood) in
       record {
         passed = grown.passed;
         known = grown.known;
-        stood = (t.passed, grown.more, grown.parts, t.stood, turned_all (first + n) (pairs_at batch settings (first + n)) grown.passed refl (omega arith) grown.is);
+        stood = (
+          t.passed,
+          grown.more,
+          grown.parts,
+          t.stood,
+          turned_all (first + n) (pairs_at batch settings (first + n)) grown.passed refl (omega arith)
+              grown.is,
+        );
         lines = hears.0 ∙ ap (λ (x : List ℕ). x ++ driven_line (first + n) (numbers_in settings (first + n))) t.lines;
         last = λ m is. subst (λ (j : ℕ). AreAnswered (switches_of board wide) (pairs_at batch settings (first + j)) grown.passed) (omega (arith, is)) grown.is;
       }
@@ -256,15 +276,18 @@ module _ (board : Option BoardWiring) (wide : Bool) (batch : List Transfer) (set
 abbrev IsFront : List Passing → Option (List Passing) → Type 0
 IsFront old new = (more : List Passing) × (new ≡ Some (old ++ more))
 
-front_of : (chip : Chip) (commands : List Command) (known : List Passing) (old new : Option (List Passing)) → old ≡ Some known → PassesFront chip commands old new → IsFront known new
+front_of : (chip : Chip) (commands : List Command) (known : List Passing) (old new : Option (List Passing)) → old ≡ Some known
+    → PassesFront chip commands old new → IsFront known new
 front_of chip commands known None new same p = absurd (let bad : None ≡ Some known = same in cc)
 front_of chip commands known (Some old) None same p = absurd p
-front_of chip commands known (Some old) (Some new) same p = (p.0, ap Some (p.1 ∙ ap (λ (x : List Passing). x ++ p.0) (let e : old ≡ known = (let h : Some old ≡ Some known = same in cc) in e)))
+front_of chip commands known (Some old) (Some new) same p =
+    (p.0, ap Some (p.1 ∙ ap (λ (x : List Passing). x ++ p.0) (let e : old ≡ known = (let h : Some old ≡ Some known = same in cc) in e)))
 
 passed_front : (known : List Passing) (old new : Option (List Passing)) (more : List Passing) → old ≡ Some known → Passes old new more → IsFront known new
 passed_front known old new more same p = (more, passes_on known old new more same p)
 
-breaks_front : (fault : SettingFault) (standing : Option (List Pair)) (pairs : List Pair) (step : Step) (known : List Passing) (old new : Option (List Passing)) → old ≡ Some known → Breaks fault standing pairs step old new → IsFront known new
+breaks_front : (fault : SettingFault) (standing : Option (List Pair)) (pairs : List Pair) (step : Step) (known : List Passing) (old new : Option (List Passing))
+    → old ≡ Some known → Breaks fault standing pairs step old new → IsFront known new
 breaks_front Port standing pairs (turn chip wiring) known old new same p = front_of chip _ known old new same p
 breaks_front (Disagrees found) standing pairs (turn chip wiring) known old new same p = absurd p
 breaks_front Port standing pairs (hear chip wiring) known old new same p = front_of chip _ known old new same p
@@ -276,14 +299,16 @@ breaks_front (Disagrees other) standing pairs (miss found chip wiring) known old
 breaks_front Port standing pairs (settle chip wiring) known old new same p = front_of chip _ known old new same p
 breaks_front (Disagrees found) standing pairs (settle chip wiring) known old new same p = absurd p
 
-step_front : (standing : Option (List Pair)) (pairs : List Pair) (step : Step) (known : List Passing) (old new : Option (List Passing)) → old ≡ Some known → IsStepDone standing pairs step old new → IsFront known new
+step_front : (standing : Option (List Pair)) (pairs : List Pair) (step : Step) (known : List Passing) (old new : Option (List Passing)) → old ≡ Some known
+    → IsStepDone standing pairs step old new → IsFront known new
 step_front standing pairs (turn chip wiring) known old new same p = passed_front known old new _ same p
 step_front standing pairs (hear chip wiring) known old new same p = passed_front known old new _ same p.passed
 step_front standing pairs (ask chip wiring) known old new same p = passed_front known old new _ same p.passed
 step_front standing pairs (miss found chip wiring) known old new same p = passed_front known old new _ same p.passed
 step_front standing pairs (settle chip wiring) known old new same p = passed_front known old new _ same p
 
-break_front : (fault : SettingFault) (standing : Option (List Pair)) (pairs : List Pair) (steps : List Step) (known : List Passing) (old new : Option (List Passing)) → old ≡ Some known → BreakOff fault standing pairs steps old new → IsFront known new
+break_front : (fault : SettingFault) (standing : Option (List Pair)) (pairs : List Pair) (steps : List Step) (known : List Passing)
+    (old new : Option (List Passing)) → old ≡ Some known → BreakOff fault standing pairs steps old new → IsFront known new
 break_front fault standing pairs [] known old new same p = absurd p
 break_front fault standing pairs (step ∷ steps) known old new same (inl p) = breaks_front fault standing pairs step known old new same p
 break_front fault standing pairs (step ∷ steps) known old new same (inr (mid, done, p)) =
@@ -300,13 +325,16 @@ many_switches None true = refl
 many_switches None false = refl
 
 -- what is so of the texts, however the drive went
-record Read (from : ScheduleSource Text) (names : Names) (texts : Files (List ℕ)) (board : Option BoardWiring) (transfers : List Transfer) (settings : List (List ℕ)) : Type 0 where
+record Read (from : ScheduleSource Text) (names : Names) (texts : Files (List ℕ)) (board : Option BoardWiring) (transfers : List Transfer)
+    (settings : List (List ℕ)) : Type 0 where
   said : FilesSaySchedule from texts transfers settings
   wired : IsWired texts.wiring transfers board
   given : Given board (is_wide_over names transfers) transfers settings
 
-read_so : (from : ScheduleSource Text) (names : Names) (texts : Files (List ℕ)) (board : Option BoardText) (filled : Option BoardWiring) (transfers : List Transfer) (settings : List (List ℕ))
-    → IsBoardOf texts.wiring board → IsScheduleFrom (source_in from (text_in texts.schedule)) widest (text_in texts.list) transfers settings → HasWaysOn board transfers → IsFilled board filled → Read from names texts filled transfers settings
+read_so : (from : ScheduleSource Text) (names : Names) (texts : Files (List ℕ)) (board : Option BoardText) (filled : Option BoardWiring)
+    (transfers : List Transfer) (settings : List (List ℕ))
+    → IsBoardOf texts.wiring board → IsScheduleFrom (source_in from (text_in texts.schedule)) widest (text_in texts.list) transfers settings
+    → HasWaysOn board transfers → IsFilled board filled → Read from names texts filled transfers settings
 read_so from names texts board filled transfers settings of is ways fills =
     let source = source_in from (text_in texts.schedule) in
     let text = text_in texts.list in
@@ -315,40 +343,59 @@ read_so from names texts board filled transfers settings of is ways fills =
     record {
       said = said;
       wired = (board, of, fills, ways);
-      given = record { fits = fits; is = schedule_of source text transfers settings said; has = all_joined board filled (how_many names == 2) transfers fits fills ways };
+      given = record {
+        fits = fits;
+        is = schedule_of source text transfers settings said;
+        has = all_joined board filled (how_many names == 2) transfers fits
+            fills ways;
+      };
     }
 
-more_lines : (settings : List (List ℕ)) (first n k : ℕ) → first + n ≡ k → lines_told settings first n ++ driven_line k (numbers_in settings k) ≡ lines_told settings first (n + 1)
-more_lines settings first n k at = let e : suc n ≡ n + 1 = omega arith in subst (λ (m : ℕ). lines_told settings first n ++ driven_line k (numbers_in settings k) ≡ lines_told settings first m) e (ap (λ (m : ℕ). lines_told settings first n ++ driven_line m (numbers_in settings m)) (sym at))
+more_lines : (settings : List (List ℕ)) (first n k : ℕ) → first + n ≡ k → lines_told settings first n ++ driven_line k (numbers_in settings k)
+    ≡ lines_told settings first (n + 1)
+more_lines settings first n k at = let e : suc n ≡ n + 1 = omega arith in subst (λ (m : ℕ). lines_told settings first n ++ driven_line k (numbers_in settings k)
+    ≡ lines_told settings first m) e (ap (λ (m : ℕ). lines_told settings first n ++ driven_line m (numbers_in settings m)) (sym at))
 
-suc_stood : (board : Option BoardWiring) (wide : Bool) (batch : List Transfer) (settings : List (List ℕ)) (first n : ℕ) (earlier more passed : List Passing) → passed ≡ earlier ++ more → StoodInTurn board wide batch settings first n earlier → Stands board wide batch settings (first + n) passed → StoodInTurn board wide batch settings first (suc n) passed
+suc_stood : (board : Option BoardWiring) (wide : Bool) (batch : List Transfer) (settings : List (List ℕ)) (first n : ℕ) (earlier more passed : List Passing)
+    → passed ≡ earlier ++ more → StoodInTurn board wide batch settings first n earlier → Stands board wide batch settings (first + n) passed
+    → StoodInTurn board wide batch settings first (suc n) passed
 suc_stood board wide batch settings first n earlier more passed parts stood stands = (earlier, more, parts, stood, stands)
 
-stood_more : (board : Option BoardWiring) (wide : Bool) (batch : List Transfer) (settings : List (List ℕ)) (first n : ℕ) (earlier more passed : List Passing) → passed ≡ earlier ++ more → StoodInTurn board wide batch settings first n earlier → Stands board wide batch settings (first + n) passed → StoodInTurn board wide batch settings first (n + 1) passed
-stood_more board wide batch settings first n earlier more passed parts stood stands = let e : suc n ≡ n + 1 = omega arith in subst (λ (m : ℕ). StoodInTurn board wide batch settings first m passed) e (suc_stood board wide batch settings first n earlier more passed parts stood stands)
+stood_more : (board : Option BoardWiring) (wide : Bool) (batch : List Transfer) (settings : List (List ℕ)) (first n : ℕ) (earlier more passed : List Passing)
+    → passed ≡ earlier ++ more → StoodInTurn board wide batch settings first n earlier → Stands board wide batch settings (first + n) passed
+    → StoodInTurn board wide batch settings first (n + 1) passed
+stood_more board wide batch settings first n earlier more passed parts stood stands = let e : suc n ≡ n + 1 =
+    omega arith in subst (λ (m : ℕ). StoodInTurn board wide batch settings first m passed) e
+    (suc_stood board wide batch settings first n earlier more passed parts stood stands)
 
 -- settings stood, the last one was told, and no other came
-ended_at : (halt : Halt) (waits : Bool) (old : Dialogue) (k : ℕ) (numbers : List ℕ) (new : Dialogue) → (halt ≡ Left) ⊎ (halt ≡ Unheard) → TellsLine waits old k numbers (Err halt) new → new.told ≡ old.told ++ driven_line k numbers
+ended_at : (halt : Halt) (waits : Bool) (old : Dialogue) (k : ℕ) (numbers : List ℕ) (new : Dialogue) → (halt ≡ Left) ⊎ (halt ≡ Unheard)
+    → TellsLine waits old k numbers (Err halt) new → new.told ≡ old.told ++ driven_line k numbers
 ended_at Left waits old k numbers new which is = is.0
 ended_at Unheard waits old k numbers new which is = is.0
 ended_at Untold waits old k numbers new (inl which) is = absurd (cc)
 ended_at Untold waits old k numbers new (inr which) is = absurd (cc)
 
-module _ (w : World) (from : ScheduleSource Text) (first : ℕ) (names : Names) (texts : Files (List ℕ)) (waits : Bool) (filled : Option BoardWiring) (transfers : List Transfer) (settings : List (List ℕ)) (start final : Dialogue) (r : Read from names texts filled transfers settings) (none : start.told ≡ []) where
+module _ (w : World) (from : ScheduleSource Text) (first : ℕ) (names : Names) (texts : Files (List ℕ)) (waits : Bool) (filled : Option BoardWiring)
+    (transfers : List Transfer) (settings : List (List ℕ)) (start final : Dialogue) (r : Read from names texts filled transfers settings)
+    (none : start.told ≡ []) where
   abbrev Stopping : Halt → ℕ → Option (List Passing) → Type 0
-  Stopping halt k carried = EndsWith (TellsLine waits) halt (rack_for filled (is_wide_over names transfers)) transfers settings first k (Some []) start carried final
+  Stopping halt k carried = EndsWith (TellsLine waits) halt (rack_for filled (is_wide_over names transfers)) transfers settings first k (Some []) start carried
+      final
 
   abbrev Drove : List ℕ → Type 0
   Drove printed = HasDriven w names from first texts printed
 
   -- all settings stood
   completed : (all : ℕ) (printed : Printed) → w.run.status ≡ DONE → how_many names ≡ switches_in (rack_for filled (is_wide_over names transfers))
-      → IsDrivenOver (TellsLine waits) (rack_for filled (is_wide_over names transfers)) transfers settings first (Completed all) names w.before w.after start final → printed.text ≡ completed_line all → Drove (final.told ++ printed.text)
+      → IsDrivenOver (TellsLine waits) (rack_for filled (is_wide_over names transfers)) transfers settings first (Completed all) names w.before w.after start
+      final → printed.text ≡ completed_line all → Drove (final.told ++ printed.text)
   completed all printed status many over line =
       let went = over.went in
       let all_of : all ≡ length settings = went.0 in
       let sum : first + went.1.0 ≡ length settings = went.1.1 ∙ all_of in
-      let t = have_stood filled (is_wide_over names transfers) transfers settings r.given waits first went.1.0 start final over.carried (omega (arith, sum)) none went.1.2 in
+      let t = have_stood filled (is_wide_over names transfers) transfers settings r.given waits first went.1.0 start final over.carried (omega (arith, sum))
+      none went.1.2 in
       record {
         transfers = transfers;
         settings = settings;
@@ -360,7 +407,8 @@ module _ (w : World) (from : ScheduleSource Text) (first : ℕ) (names : Names) 
         line = completed_line (length settings);
         said = r.said;
         wired = r.wired;
-        opened = over.ways ∙ ap (λ (c : Option (List Passing)). used names c over.failed w.before) (t.known ∙ ap Some (sym (append-nil t.passed))) ∙ ap (λ (n : ℕ). used names (Some (t.passed ++ [])) n w.before) over.cause;
+        opened = over.ways ∙ ap (λ (c : Option (List Passing)). used names c over.failed w.before) (t.known ∙ ap Some (sym (append-nil t.passed)))
+            ∙ ap (λ (n : ℕ). used names (Some (t.passed ++ [])) n w.before) over.cause;
         stood = t.stood;
         all = λ done. (many ∙ many_switches filled (is_wide_over names transfers), sum, refl, refl, refl);
         last = λ refused. absurd (done_is w.run.status status refused);
@@ -368,15 +416,22 @@ module _ (w : World) (from : ScheduleSource Text) (first : ℕ) (names : Names) 
       }
 
   -- what was told before the last setting that stood
-  told_before : (halt : Halt) (k : ℕ) (carried : Option (List Passing)) → (went : Stopping halt k carried) → went.telling.told ≡ lines_told settings first went.count
-  told_before halt k carried went = (have_stood filled (is_wide_over names transfers) transfers settings r.given waits first went.count start went.telling went.mid (omega (arith, went.at, went.within)) none went.before).lines
+  told_before : (halt : Halt) (k : ℕ) (carried : Option (List Passing)) → (went : Stopping halt k carried) → went.telling.told
+      ≡ lines_told settings first went.count
+  told_before halt k carried went = (have_stood filled (is_wide_over names transfers) transfers settings r.given waits first went.count start went.telling
+      went.mid (omega (arith, went.at, went.within)) none went.before).lines
 
   -- it stood itself, and nothing more passed
-  last_stood : (halt : Halt) (k : ℕ) (line : List ℕ) (carried : Option (List Passing)) (failed : ℕ) → w.run.status ≡ REFUSED → (went : Stopping halt k carried) → w.after ≡ used names carried failed w.before → (line ≡ left_line k) ⊎ (line ≡ stopped_line k (codes "input"))
+  last_stood : (halt : Halt) (k : ℕ) (line : List ℕ) (carried : Option (List Passing)) (failed : ℕ) → w.run.status ≡ REFUSED → (went : Stopping halt k carried)
+      → w.after ≡ used names carried failed w.before → (line ≡ left_line k) ⊎ (line ≡ stopped_line k (codes "input"))
       → Drove (lines_told settings first (went.count + 1) ++ line)
   last_stood halt k line carried failed status went ways is =
-      let t = have_stood filled (is_wide_over names transfers) transfers settings r.given waits first went.count start went.telling went.mid (omega (arith, went.at, went.within)) none went.before in
-      let grown = one_more filled (is_wide_over names transfers) transfers settings r.given first went.count t.passed carried (omega (arith, went.at, went.within)) t.last (subst (λ (o : Option (List Passing)). Stood (rack_for filled (is_wide_over names transfers)) transfers settings first went.count o carried) t.known went.stood) in
+      let t = have_stood filled (is_wide_over names transfers) transfers settings r.given waits first went.count start went.telling went.mid
+      (omega (arith, went.at, went.within)) none went.before in
+      let grown = one_more filled (is_wide_over names transfers) transfers settings r.given first went.count t.passed carried
+      (omega (arith, went.at, went.within)) t.last
+      (subst (λ (o : Option (List Passing)). Stood (rack_for filled (is_wide_over names transfers)) transfers settings first went.count o carried) t.known
+      went.stood) in
       record {
         transfers = transfers;
         settings = settings;
@@ -389,17 +444,23 @@ module _ (w : World) (from : ScheduleSource Text) (first : ℕ) (names : Names) 
         said = r.said;
         wired = r.wired;
         opened = ways ∙ ap (λ (c : Option (List Passing)). used names c failed w.before) (grown.known ∙ ap Some (sym (append-nil grown.passed)));
-        stood = stood_more filled (is_wide_over names transfers) transfers settings first went.count t.passed grown.more grown.passed grown.parts t.stood (turned_all filled (is_wide_over names transfers) transfers settings r.given (first + went.count) (pairs_at transfers settings (first + went.count)) grown.passed refl (omega (arith, went.at, went.within)) grown.is);
+        stood = stood_more filled (is_wide_over names transfers) transfers settings first went.count t.passed grown.more grown.passed grown.parts t.stood
+            (turned_all filled (is_wide_over names transfers) transfers settings r.given (first + went.count) (pairs_at transfers settings (first + went.count))
+            grown.passed refl (omega (arith, went.at, went.within)) grown.is);
         all = λ done. absurd (done_is w.run.status done status);
         last = λ refused. inr (k, omega (arith, went.at), went.within, omega (arith, went.at), refl, is);
         prints = refl;
       }
 
-  stopped_at : (k : ℕ) (fault : SettingFault) (printed : Printed) → w.run.status ≡ REFUSED → IsDrivenOver (TellsLine waits) (rack_for filled (is_wide_over names transfers)) transfers settings first (Stopped k fault) names w.before w.after start final → printed.text ≡ stopped_line k (fault_words fault) → Drove (final.told ++ printed.text)
+  stopped_at : (k : ℕ) (fault : SettingFault) (printed : Printed) → w.run.status ≡ REFUSED
+      → IsDrivenOver (TellsLine waits) (rack_for filled (is_wide_over names transfers)) transfers settings first (Stopped k fault) names w.before w.after start
+      final → printed.text ≡ stopped_line k (fault_words fault) → Drove (final.told ++ printed.text)
   stopped_at k fault printed status over line =
       let went = over.went in
-      let t = have_stood filled (is_wide_over names transfers) transfers settings r.given waits first went.count start final went.mid (omega (arith, went.at, went.within)) none went.before in
-      let f = break_front fault _ _ (settled_steps (wirings_of (rack_for filled (is_wide_over names transfers)))) t.passed went.mid over.carried t.known went.vain.1 in
+      let t = have_stood filled (is_wide_over names transfers) transfers settings r.given waits first went.count start final went.mid
+      (omega (arith, went.at, went.within)) none went.before in
+      let f = break_front fault _ _ (settled_steps (wirings_of (rack_for filled (is_wide_over names transfers)))) t.passed went.mid over.carried t.known
+      went.vain.1 in
       record {
         transfers = transfers;
         settings = settings;
@@ -418,7 +479,9 @@ module _ (w : World) (from : ScheduleSource Text) (first : ℕ) (names : Names) 
         prints = ap₂ (λ (x y : List ℕ). x ++ y) t.lines line;
       }
 
-  left_at : (halt : Halt) (k : ℕ) (line : List ℕ) (carried : Option (List Passing)) (failed : ℕ) (printed : Printed) → w.run.status ≡ REFUSED → (halt ≡ Left) ⊎ (halt ≡ Unheard) → Stopping halt k carried → w.after ≡ used names carried failed w.before → printed.text ≡ line → (line ≡ left_line k) ⊎ (line ≡ stopped_line k (codes "input"))
+  left_at : (halt : Halt) (k : ℕ) (line : List ℕ) (carried : Option (List Passing)) (failed : ℕ) (printed : Printed) → w.run.status ≡ REFUSED → (halt ≡ Left)
+      ⊎ (halt ≡ Unheard) → Stopping halt k carried → w.after ≡ used names carried failed w.before → printed.text ≡ line → (line ≡ left_line k)
+      ⊎ (line ≡ stopped_line k (codes "input"))
       → Drove (final.told ++ printed.text)
   left_at halt k line carried failed printed status which went ways text is =
       let told : final.told ≡ lines_told settings first (went.count + 1) = ended_at halt waits went.telling k (numbers_in settings k) final which went.said
@@ -433,7 +496,8 @@ not_begun : (first n : ℕ) → ((first ≡ 0) ⊎ (first < n) → ⊥) → (0 <
 not_begun zero n other = absurd (other (inl refl))
 not_begun (suc m) n other = (omega arith, not_less (suc m) n (λ less. other (inr less)))
 
-wrong_on : (from : ScheduleSource (List ℕ)) (text : List ℕ) (wiring : Option (List ℕ)) (first : ℕ) (refusal : Refusal) → IsFirstDriveWrong from text wiring first refusal → IsFirstWrongOn from text wiring first refusal
+wrong_on : (from : ScheduleSource (List ℕ)) (text : List ℕ) (wiring : Option (List ℕ)) (first : ℕ) (refusal : Refusal) → IsFirstDriveWrong from text wiring
+    first refusal → IsFirstWrongOn from text wiring first refusal
 wrong_on from text wiring first refusal (drives.wiring_wrong fault wrong is) = wiring_wrong fault wrong is
 wrong_on from text wiring first refusal (drives.lacking board of lacks) = lacking board of lacks
 wrong_on from text wiring first refusal (drives.texts_wrong board of wrong has) = texts_wrong board of wrong has
@@ -444,51 +508,75 @@ wrong_on from text wiring first refusal (drives.no_setting board batch settings 
 abbrev pub DroveOr : World → Names → ScheduleSource Text → ℕ → Files (List ℕ) → List ℕ → Type 0
 DroveOr w names from first texts printed =
     HasDriven w names from first texts printed
-    ⊎ ((IsRefusalLine (λ refusal. IsFirstWrongOn (source_in from (text_in texts.schedule)) (text_in texts.list) texts.wiring first refusal ⊎ AreNoWays names from texts refusal) printed
+    ⊎ ((IsRefusalLine (λ refusal. IsFirstWrongOn (source_in from (text_in texts.schedule)) (text_in texts.list) texts.wiring first refusal
+    ⊎ AreNoWays names from texts refusal) printed
     × (w.after ≡ w.before)) × (w.run.status ≡ REFUSED))
 
 module _ (w : World) (from : ScheduleSource Text) (first : ℕ) (names : Names) (texts : Files (List ℕ)) (goes_on : Bool) where
   module _ (start final : Dialogue) (printed : Printed) (none : start.told ≡ []) (status : w.run.status ≡ printed.status) where
     -- the refusal was all that was printed, and no port was opened
     refused_so : (refusal : Refusal) → final ≡ start → IsRefused (refusal_words refusal) printed → w.after ≡ w.before
-        → IsFirstWrongOn (source_in from (text_in texts.schedule)) (text_in texts.list) texts.wiring first refusal ⊎ AreNoWays names from texts refusal → DroveOr w names from first texts (final.told ++ printed.text)
+        → IsFirstWrongOn (source_in from (text_in texts.schedule)) (text_in texts.list) texts.wiring first refusal ⊎ AreNoWays names from texts refusal
+        → DroveOr w names from first texts (final.told ++ printed.text)
     refused_so refusal same line left wrong =
         let told : final.told ≡ [] = ap (λ (d : Dialogue). d.told) same ∙ none in
         inr (((refusal, wrong, ap (λ (x : List ℕ). x ++ printed.text) told ∙ line.line), left), status ∙ line.status)
 
     tried_so : (filled : Option BoardWiring) (transfers : List Transfer) (settings : List (List ℕ)) → Read from names texts filled transfers settings
-        → IsTried (TellsLine (not goes_on)) (rack_for filled (is_wide_over names transfers)) transfers settings first names w.before w.after start final printed → DroveOr w names from first texts (final.told ++ printed.text)
+        → IsTried (TellsLine (not goes_on)) (rack_for filled (is_wide_over names transfers)) transfers settings first names w.before w.after start final printed
+        → DroveOr w names from first texts (final.told ++ printed.text)
     tried_so filled transfers settings r (drives.driven (Completed all) many over ends) =
         inl (completed w from first names texts (not goes_on) filled transfers settings start final r none all printed (status ∙ ends.1) many over ends.0)
     tried_so filled transfers settings r (drives.driven (Stopped k fault) many over ends) =
         inl (stopped_at w from first names texts (not goes_on) filled transfers settings start final r none k fault printed (status ∙ ends.1) over ends.0)
     tried_so filled transfers settings r (drives.driven (Halted k Left) many over ends) =
-        inl (left_at w from first names texts (not goes_on) filled transfers settings start final r none Left k (left_line k) over.carried over.failed printed (status ∙ ends.1) (inl refl) over.went over.ways ends.0 (inl refl))
+        inl (left_at w from first names texts (not goes_on) filled transfers settings start final r none Left k (left_line k) over.carried over.failed printed
+        (status ∙ ends.1) (inl refl) over.went over.ways ends.0 (inl refl))
     tried_so filled transfers settings r (drives.driven (Halted k Unheard) many over ends) =
-        inl (left_at w from first names texts (not goes_on) filled transfers settings start final r none Unheard k (stopped_line k (codes "input")) over.carried over.failed printed (status ∙ ends.1) (inr refl) over.went over.ways ends.0 (inr refl))
+        inl (left_at w from first names texts (not goes_on) filled transfers settings start final r none Unheard k (stopped_line k (codes "input")) over.carried
+        over.failed printed (status ∙ ends.1) (inr refl) over.went over.ways ends.0 (inr refl))
     tried_so filled transfers settings r (drives.driven (Halted k Untold) many over ends) = absurd ends
     tried_so filled transfers settings r (drives.unopened refusal why refuses same left) =
-        refused_so refusal same refuses.1 left (inr (transfers, settings, filled, r.said, r.wired, subst (λ (n : ℕ). IsUnopened names n refusal) (many_switches filled (is_wide_over names transfers)) why))
+        refused_so refusal same refuses.1 left
+        (inr (
+          transfers,
+          settings,
+          filled,
+          r.said,
+          r.wired,
+          subst (λ (n : ℕ). IsUnopened names n refusal)
+              (many_switches filled (is_wide_over names transfers)) why,
+        ))
 
-    pub drove_so : IsDriveAnswer (TellsLine (not goes_on)) (source_in from (text_in texts.schedule)) (text_in texts.list) texts.wiring first names w.before w.after start final printed → DroveOr w names from first texts (final.told ++ printed.text)
-    drove_so (drives.tried board filled transfers settings of is ways fills begins tries) = tried_so filled transfers settings (read_so from names texts board filled transfers settings of is ways fills) tries
-    drove_so (drives.wrong refusal wrong refuses same left) = refused_so refusal same refuses.1 left (inl (wrong_on _ (text_in texts.list) texts.wiring first refusal wrong))
+    pub drove_so : IsDriveAnswer (TellsLine (not goes_on)) (source_in from (text_in texts.schedule)) (text_in texts.list) texts.wiring first names w.before
+        w.after start final printed → DroveOr w names from first texts (final.told ++ printed.text)
+    drove_so (drives.tried board filled transfers settings of is ways fills begins tries) =
+        tried_so filled transfers settings (read_so from names texts board filled transfers settings of is ways fills) tries
+    drove_so (drives.wrong refusal wrong refuses same left) = refused_so refusal same refuses.1 left
+        (inl (wrong_on _ (text_in texts.list) texts.wiring first refusal wrong))
 
   -- settings stood, and the line of the last one couldn't all be written
   pub cut_so : (input left : Option (List ℕ)) (told : List ℕ) → w.run.status ≡ REFUSED
-      → HasFailed (TellsLine (not goes_on)) (source_in from (text_in texts.schedule)) (text_in texts.list) texts.wiring first names w.before w.after (record { told = []; left = input }) (record { told = told; left = left }) drive_fault.Untold
+      → HasFailed (TellsLine (not goes_on)) (source_in from (text_in texts.schedule)) (text_in texts.list) texts.wiring first names w.before w.after
+      (record { told = []; left = input }) (record { told = told; left = left }) drive_fault.Untold
       → (missing : List ℕ) × HasDriven w names from first texts (told ++ missing)
   cut_so input left told status failed =
       let over = failed.8.2 in
       let start : Dialogue = record { told = []; left = input } in
       let final : Dialogue = record { told = told; left = left } in
       let read = read_so from names texts failed.0 failed.1 failed.2 failed.3 failed.4 failed.5 failed.6 failed.7 in
-      let lines = told_before w from first names texts (not goes_on) failed.1 failed.2 failed.3 start final read refl Untold failed.8.0 over.carried over.went in
+      let lines = told_before w from first names texts (not goes_on) failed.1 failed.2 failed.3 start final read refl Untold failed.8.0 over.carried
+      over.went in
       let said = over.went.said in
       let line = driven_line failed.8.0 (numbers_in failed.3 failed.8.0) in
       let more = said.1 ++ left_line failed.8.0 in
       let whole : told ++ more ≡ lines_told failed.3 first (over.went.count + 1) ++ left_line failed.8.0 =
       ap (λ (x : List ℕ). x ++ more) (said.3 ∙ ap (λ (x : List ℕ). x ++ said.0) lines) ∙ append_assoc (lines_told failed.3 first over.went.count) said.0 more
-      ∙ ap (λ (x : List ℕ). lines_told failed.3 first over.went.count ++ x) (sym (append_assoc said.0 said.1 (left_line failed.8.0)) ∙ ap (λ (x : List ℕ). x ++ left_line failed.8.0) (sym said.2))
-      ∙ sym (append_assoc (lines_told failed.3 first over.went.count) line (left_line failed.8.0)) ∙ ap (λ (x : List ℕ). x ++ left_line failed.8.0) (more_lines failed.3 first over.went.count failed.8.0 over.went.at) in
-      (more, subst (HasDriven w names from first texts) (sym whole) (last_stood w from first names texts (not goes_on) failed.1 failed.2 failed.3 start final read refl Untold failed.8.0 (left_line failed.8.0) over.carried over.failed status over.went over.ways (inl refl)))
+      ∙ ap (λ (x : List ℕ). lines_told failed.3 first over.went.count ++ x) (sym (append_assoc said.0 said.1 (left_line failed.8.0))
+      ∙ ap (λ (x : List ℕ). x ++ left_line failed.8.0) (sym said.2))
+      ∙ sym (append_assoc (lines_told failed.3 first over.went.count) line (left_line failed.8.0)) ∙ ap (λ (x : List ℕ). x ++ left_line failed.8.0)
+      (more_lines failed.3 first over.went.count failed.8.0 over.went.at) in (
+        more,
+        subst (HasDriven w names from first texts) (sym whole) (last_stood w from first names texts (not goes_on) failed.1 failed.2 failed.3 start final
+            read refl Untold failed.8.0 (left_line failed.8.0) over.carried over.failed status over.went over.ways (inl refl)),
+      )

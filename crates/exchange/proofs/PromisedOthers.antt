@@ -37,7 +37,8 @@ use Rattle.session_answers.specs.declared.ended_session.Ending.{Ending}
 
 -- ---- what is left
 
-module _ {C : Type 0} (received : C → Closed) (receipts : Receipts C) (comes : Text → Option (List ℕ)) (had : Text → List ℕ) (endings : List (Ending (List ℕ))) (was after : Ways) (run : Run) (whole : Bool) where
+module _ {C : Type 0} (received : C → Closed) (receipts : Receipts C) (comes : Text → Option (List ℕ)) (had : Text → List ℕ) (endings : List (Ending (List ℕ)))
+    (was after : Ways) (run : Run) (whole : Bool) where
   abbrev The : World
   The = record { run = run; whole = whole; before = was; after = after; kept = saved_by received receipts; clients = clients_of comes had endings }
 
@@ -45,14 +46,20 @@ module _ {C : Type 0} (received : C → Closed) (receipts : Receipts C) (comes :
   none_gone None is = refl
   none_gone (Some receipt) is = absurd is
 
-  no_files : (left : Option BookView) (lost : WriteFailures) → left ≡ None → AreScriptsKept received None None left receipts lost → (option_map received receipts.recorded ≡ None) × (option_map received receipts.image ≡ None)
+  no_files : (left : Option BookView) (lost : WriteFailures) → left ≡ None → AreScriptsKept received None None left receipts lost
+      → (option_map received receipts.recorded ≡ None) × (option_map received receipts.image ≡ None)
   no_files left lost none kept =
       let gone = subst (λ (l : Option BookView). AreScriptsKept received None None l receipts lost) none kept in
       (none_gone receipts.recorded gone.0, none_gone receipts.image gone.1)
 
   -- nothing was opened
   all_left : IsNoneLeft receipts was after (ends_of endings) → LeavesAll The
-  all_left none = (none.1, ap (λ (r : Receipts C). option_map received r.recorded) none.0, ap (λ (r : Receipts C). option_map received r.image) none.0, none_ended endings none.2)
+  all_left none = (
+    none.1,
+    ap (λ (r : Receipts C). option_map received r.recorded) none.0,
+    ap (λ (r : Receipts C). option_map received r.image) none.0,
+    none_ended endings none.2,
+  )
 
   -- then no more was than any job asks for
   all_left_by : (job : Job) → LeavesAll The → LeavesOthers The job
@@ -64,32 +71,46 @@ module _ {C : Type 0} (received : C → Closed) (receipts : Receipts C) (comes :
   all_left_by (Sessions rack Talk) all = (all.0, all.3)
 
   -- an answer to it leaves this
-  answer_left : (holds : Holding) (job : Job) (files : Files (List ℕ)) (given : Given) (response : Response) (lost : WriteFailures) → given.ports ≡ was → response.ports ≡ after → response.ends ≡ ends_of endings → AreKeptBut holds received job response.left receipts lost → IsAnswerTo holds job files given response → LeavesOthers The job
-  answer_left holds (Texts job) files given response lost same ports ends kept is = let none = no_files response.left lost is.0 kept in (sym ports ∙ is.2 ∙ same, none.0, none.1, none_ended endings (sym ends ∙ is.1))
-  answer_left holds (OverPorts C004) files given response lost same ports ends kept is = let none = no_files response.left lost is.0 kept in (sym ports ∙ is.2.1 ∙ same, none.0, none.1, none_ended endings (sym ends ∙ is.1))
-  answer_left holds (OverPorts (Drive batch port port_b source wiring first goes_on workers)) files given response lost same ports ends kept is = let none = no_files response.left lost is.0 kept in (none.0, none.1, none_ended endings (sym ends ∙ is.1))
-  answer_left holds (Sessions rack (Serve scripts workers)) files given response lost same ports ends kept is = (sym ports ∙ is.0 ∙ same, none_ended endings (sym ends ∙ is.1.2))
+  answer_left : (holds : Holding) (job : Job) (files : Files (List ℕ)) (given : Given) (response : Response) (lost : WriteFailures) → given.ports ≡ was
+      → response.ports ≡ after → response.ends ≡ ends_of endings → AreKeptBut holds received job response.left receipts lost
+      → IsAnswerTo holds job files given response → LeavesOthers The job
+  answer_left holds (Texts job) files given response lost same ports ends kept is = let none =
+      no_files response.left lost is.0 kept in (sym ports ∙ is.2 ∙ same, none.0, none.1, none_ended endings (sym ends ∙ is.1))
+  answer_left holds (OverPorts C004) files given response lost same ports ends kept is = let none =
+      no_files response.left lost is.0 kept in (sym ports ∙ is.2.1 ∙ same, none.0, none.1, none_ended endings (sym ends ∙ is.1))
+  answer_left holds (OverPorts (Drive batch port port_b source wiring first goes_on workers)) files given response lost same ports ends kept is = let none =
+      no_files response.left lost is.0 kept in (none.0, none.1, none_ended endings (sym ends ∙ is.1))
+  answer_left holds (Sessions rack (Serve scripts workers)) files given response lost same ports ends kept is =
+      (sym ports ∙ is.0 ∙ same, none_ended endings (sym ends ∙ is.1.2))
   answer_left holds (Sessions rack (Host clients workers)) files given response lost same ports ends kept is = sym ports ∙ is.0 ∙ same
   answer_left holds (Sessions rack Talk) files given response lost same ports ends kept is = (sym ports ∙ is.0 ∙ same, none_ended endings (sym ends ∙ is.1.2))
 
   -- so does a refusal before it
-  none_left : (holds : Holding) (job : Job) (lost : WriteFailures) → after ≡ was → ends_of endings ≡ [] → AreKeptBut holds received job None receipts lost → LeavesOthers The job
+  none_left : (holds : Holding) (job : Job) (lost : WriteFailures) → after ≡ was → ends_of endings ≡ [] → AreKeptBut holds received job None receipts lost
+      → LeavesOthers The job
   none_left holds (Texts job) lost ports ends kept = let none = no_files None lost refl kept in (ports, none.0, none.1, none_ended endings ends)
   none_left holds (OverPorts C004) lost ports ends kept = let none = no_files None lost refl kept in (ports, none.0, none.1, none_ended endings ends)
-  none_left holds (OverPorts (Drive batch port port_b source wiring first goes_on workers)) lost ports ends kept = let none = no_files None lost refl kept in (none.0, none.1, none_ended endings ends)
+  none_left holds (OverPorts (Drive batch port port_b source wiring first goes_on workers)) lost ports ends kept = let none =
+      no_files None lost refl kept in (none.0, none.1, none_ended endings ends)
   none_left holds (Sessions rack (Serve scripts workers)) lost ports ends kept = (ports, none_ended endings ends)
   none_left holds (Sessions rack (Host clients workers)) lost ports ends kept = ports
   none_left holds (Sessions rack Talk) lost ports ends kept = (ports, none_ended endings ends)
 
-  response_left : (named : Named) (given : Given) (job : Job) (response : Response) (lost : WriteFailures) → given.ports ≡ was → response.ports ≡ after → KeepsSo named.holds received receipts (ends_of endings) lost job response → IsResponseTo named given job response → LeavesOthers The job
-  response_left named given job response lost same ports kept (inl comes) = answer_left named.holds job comes.1.0 _ response lost same ports kept.1 kept.0 comes.1.3
+  response_left : (named : Named) (given : Given) (job : Job) (response : Response) (lost : WriteFailures) → given.ports ≡ was → response.ports ≡ after
+      → KeepsSo named.holds received receipts (ends_of endings) lost job response → IsResponseTo named given job response → LeavesOthers The job
+  response_left named given job response lost same ports kept (inl comes) = answer_left named.holds job comes.1.0 _ response lost same ports kept.1 kept.0
+      comes.1.3
   response_left named given job response lost same ports kept (inr none) =
-      none_left named.holds job lost (sym ports ∙ none.1 ∙ same) (sym kept.1 ∙ none.2) (subst (λ (l : Option BookView). AreKeptBut named.holds received job l receipts lost) none.3 kept.0)
+      none_left named.holds job lost (sym ports ∙ none.1 ∙ same) (sym kept.1 ∙ none.2)
+      (subst (λ (l : Option BookView). AreKeptBut named.holds received job l receipts lost) none.3 kept.0)
 
   -- so does what was told before an answer that couldn't all be written
-  cut_left : (holds : Holding) (job : Job) (files : Files (List ℕ)) (input : Option (List ℕ)) (told : List ℕ) → IsToldCut job files input was after told → ends_of endings ≡ [] → AreKeptBut holds received job None receipts no_write_failures → LeavesOthers The job
-  cut_left holds (OverPorts C004) files input told is none kept = let gone = no_files None no_write_failures refl kept in (is.1, gone.0, gone.1, none_ended endings none)
-  cut_left holds (OverPorts (Drive batch port port_b source wiring first goes_on workers)) files input told is none kept = let gone = no_files None no_write_failures refl kept in (gone.0, gone.1, none_ended endings none)
+  cut_left : (holds : Holding) (job : Job) (files : Files (List ℕ)) (input : Option (List ℕ)) (told : List ℕ) → IsToldCut job files input was after told
+      → ends_of endings ≡ [] → AreKeptBut holds received job None receipts no_write_failures → LeavesOthers The job
+  cut_left holds (OverPorts C004) files input told is none kept = let gone = no_files None no_write_failures refl
+      kept in (is.1, gone.0, gone.1, none_ended endings none)
+  cut_left holds (OverPorts (Drive batch port port_b source wiring first goes_on workers)) files input told is none kept = let gone =
+      no_files None no_write_failures refl kept in (gone.0, gone.1, none_ended endings none)
   cut_left holds job files input told is none kept = absurd is
 
 -- ---- help
@@ -110,17 +131,21 @@ same_out before after same = subst (λ (o : Option (List ℕ)). Appends before o
 
 -- ---- the promises
 
-module _ {C : Type 0} (received : C → Closed) (receipts : Receipts C) (comes : Text → Option (List ℕ)) (had : Text → List ℕ) (endings : List (Ending (List ℕ))) (after : Ways) where
+module _ {C : Type 0} (received : C → Closed) (receipts : Receipts C) (comes : Text → Option (List ℕ)) (had : Text → List ℕ) (endings : List (Ending (List ℕ)))
+    (after : Ways) where
   abbrev World1 : Ways → Run → Bool → World
   World1 was run whole = The received receipts comes had endings was after run whole
 
   -- where all was written
-  module _ (e : JobEnd) (ports : (job : Job) (response : Response) → e.keeps job response → response.ports ≡ after) (so : (job : Job) (response : Response) → e.keeps job response → KeepsSo e.named.holds received receipts (ends_of endings) no_write_failures job response)
+  module _ (e : JobEnd) (ports : (job : Job) (response : Response) → e.keeps job response → response.ports ≡ after) (so : (job : Job) (response : Response)
+      → e.keeps job response → KeepsSo e.named.holds received receipts (ends_of endings) no_write_failures job response)
       (none : e.none → IsNoneLeft receipts e.given.ports after (ends_of endings)) (is : EndsSo e) where
     pub keeps_others : (job : Job) → AsksFor (ended_run e) job → LeavesOthers (World1 e.given.ports (ended_run e) true) job
     keeps_others job asks = elim (end_of e (record { job = job; is_quiet = asks.0 }) asks.1 is) [
-      | inl done ↦ response_left received receipts comes had endings e.given.ports after (ended_run e) true e.named e.given job done.0 no_write_failures refl (ports job done.0 done.2) (so job done.0 done.2) done.1
-      | inr gives_up ↦ all_left_by received receipts comes had endings e.given.ports after (ended_run e) true job (all_left received receipts comes had endings e.given.ports after (ended_run e) true (none gives_up.0))
+      | inl done ↦ response_left received receipts comes had endings e.given.ports after (ended_run e) true e.named e.given job done.0 no_write_failures refl
+          (ports job done.0 done.2) (so job done.0 done.2) done.1
+      | inr gives_up ↦ all_left_by received receipts comes had endings e.given.ports after (ended_run e) true job
+          (all_left received receipts comes had endings e.given.ports after (ended_run e) true (none gives_up.0))
     ]
 
     pub keeps_nothing : KeepsNothing (World1 e.given.ports (ended_run e) true)
@@ -128,7 +153,10 @@ module _ {C : Type 0} (received : C → Closed) (receipts : Receipts C) (comes :
       where
         by : EndsSo e → LeavesAll (World1 e.given.ports (ended_run e) true) × (IsMisused (ended_run e) ⊎ ((e.code ≡ DONE) × AskForHelp e.words))
         by (Ok request, has, wrong, done) = absurd (nothing request has)
-        by (Err NoMemory, has, wrong, ends) = (all_left received receipts comes had endings e.given.ports after (ended_run e) true (none ends.0), inl (inr (inl (ends.1.0.status, ends.1.0.text))))
+        by (Err NoMemory, has, wrong, ends) = (
+          all_left received receipts comes had endings e.given.ports after (ended_run e) true (none ends.0),
+          inl (inr (inl (ends.1.0.status, ends.1.0.text))),
+        )
         by (Err (Clap error), has, wrong, ends) = (
           all_left received receipts comes had endings e.given.ports after (ended_run e) true (none ends.0),
           elim (help_or_not (kind_of error)) [
@@ -140,34 +168,43 @@ module _ {C : Type 0} (received : C → Closed) (receipts : Receipts C) (comes :
   -- where not all was
   module _ (words : List Text) (named : Named) (given : Given) (before behind : Option (List ℕ)) (run : Run) (whole : Bool)
       (cut : IsCutFor named (leaving named.holds received receipts given.ports after (ends_of endings)) words given before behind) where
-    part_left : (request : Request) → IsDoneInPart named (leaving named.holds received receipts given.ports after (ends_of endings)) given request before behind → LeavesOthers (World1 given.ports run whole) request.job
+    part_left : (request : Request) → IsDoneInPart named (leaving named.holds received receipts given.ports after (ends_of endings)) given request before behind
+        → LeavesOthers (World1 given.ports run whole) request.job
     part_left request (inl (response, is, kept, part)) =
-        response_left received receipts comes had endings given.ports after run whole named given request.job response kept.0.0 refl kept.1 (kept.0.1, kept.2) is
+        response_left received receipts comes had endings given.ports after run whole named given request.job response kept.0.0 refl kept.1 (kept.0.1, kept.2)
+        is
     part_left request (inr (told, is, kept, part)) =
         cut_left received receipts comes had endings given.ports after run whole named.holds request.job is.0 is.1 told is.3 is.4 kept
 
     pub cut_others : (job : Job) (quiet : Bool) → AskFor words (record { job = job; is_quiet = quiet }) → LeavesOthers (World1 given.ports run whole) job
     cut_others job quiet asks = by cut
       where
-        by : IsCutFor named (leaving named.holds received receipts given.ports after (ends_of endings)) words given before behind → LeavesOthers (World1 given.ports run whole) job
+        by : IsCutFor named (leaving named.holds received receipts given.ports after (ends_of endings)) words given before behind
+            → LeavesOthers (World1 given.ports run whole) job
         by (Ok other, has, wrong, done) =
-            subst (λ (r : Request). LeavesOthers (World1 given.ports run whole) r.job) (one_request words other (record { job = job; is_quiet = quiet }) has asks) (part_left other done)
-        by (Err NoMemory, has, wrong, none) = all_left_by received receipts comes had endings given.ports after run whole job (all_left received receipts comes had endings given.ports after run whole none.0)
+            subst (λ (r : Request). LeavesOthers (World1 given.ports run whole) r.job)
+            (one_request words other (record { job = job; is_quiet = quiet }) has asks) (part_left other done)
+        by (Err NoMemory, has, wrong, none) = all_left_by received receipts comes had endings given.ports after run whole job
+            (all_left received receipts comes had endings given.ports after run whole none.0)
         by (Err (Clap error), has, wrong, none) = absurd (no_fault words (record { job = job; is_quiet = quiet }) error asks wrong)
 
     pub cut_nothing : run.words ≡ words → run.status ≡ UNWRITTEN → KeepsNothing (World1 given.ports run whole)
     cut_nothing same unwritten nothing = by cut
       where
-        by : IsCutFor named (leaving named.holds received receipts given.ports after (ends_of endings)) words given before behind → LeavesAll (World1 given.ports run whole) × (IsMisused run ⊎ ((run.status ≡ DONE) × AskForHelp run.words))
+        by : IsCutFor named (leaving named.holds received receipts given.ports after (ends_of endings)) words given before behind
+            → LeavesAll (World1 given.ports run whole) × (IsMisused run ⊎ ((run.status ≡ DONE) × AskForHelp run.words))
         by (Ok request, has, wrong, done) = absurd (nothing request (subst (λ (ws : List Text). AskFor ws request) (sym same) has))
         by (Err NoMemory, has, wrong, none) = (all_left received receipts comes had endings given.ports after run whole none.0, inl (inr (inr unwritten)))
         by (Err (Clap error), has, wrong, none) = (all_left received receipts comes had endings given.ports after run whole none.0, inl (inr (inr unwritten)))
 
   -- where the arguments can't be read
-  pub keeps_unread : {X E : Type 0} (arguments : Result X E) (holds : Holding) (input before behind : Option (List ℕ)) (was : Ways) (code : ℕ) → OnErr arguments (IsNoneLeft receipts was after (ends_of endings) × ((code ≡ UNWRITTEN) ⊎ IsEndWithoutArguments before behind code))
-      → OnErr arguments (KeepsUnread (world_of (run_of holds input (Appends before behind) [] code) was after (saved_by received receipts) (clients_of comes had endings)))
+  pub keeps_unread : {X E : Type 0} (arguments : Result X E) (holds : Holding) (input before behind : Option (List ℕ)) (was : Ways) (code : ℕ)
+      → OnErr arguments (IsNoneLeft receipts was after (ends_of endings) × ((code ≡ UNWRITTEN) ⊎ IsEndWithoutArguments before behind code))
+      → OnErr arguments
+      (KeepsUnread (world_of (run_of holds input (Appends before behind) [] code) was after (saved_by received receipts) (clients_of comes had endings)))
   keeps_unread (Ok words) holds input before behind was code is = tt
-  keeps_unread (Err error) holds input before behind was code is = (all_left received receipts comes had endings was after (run_of holds input (Appends before behind) [] code) true is.0, misused is.1)
+  keeps_unread (Err error) holds input before behind was code is =
+      (all_left received receipts comes had endings was after (run_of holds input (Appends before behind) [] code) true is.0, misused is.1)
     where
       misused : (code ≡ UNWRITTEN) ⊎ IsEndWithoutArguments before behind code → IsMisused (run_of holds input (Appends before behind) [] code)
       misused (inl unwritten) = inr (inr unwritten)

@@ -24,16 +24,22 @@ use Rattle.plan_answers.specs.declared.source.Planning.TheVariants.{Plain, Stead
 -- ---- batches
 
 -- a text that denotes a batch of a shape denotes it in the widest too
-pub wider : (shape : ShapeView) (text : List ℕ) (batch : List Transfer) → shape.modules ≤ MAX_MODULES → shape.blocks ≤ MAX_BLOCKS → Denotes shape text batch → Denotes widest text batch
+pub wider : (shape : ShapeView) (text : List ℕ) (batch : List Transfer) → shape.modules ≤ MAX_MODULES → shape.blocks ≤ MAX_BLOCKS → Denotes shape text batch
+    → Denotes widest text batch
 wider shape text batch few_modules few_blocks is = record {
   spelled = is.spelled;
   few = is.few;
-  within = All-weaker (IsWithin shape) (IsWithin widest) (λ t in_it. ((omega (arith, in_it.0.0, few_modules), omega (arith, in_it.0.1, few_modules)), (omega (arith, in_it.1.0, few_blocks), omega (arith, in_it.1.1, few_blocks)))) batch is.within;
+  within = All-weaker (IsWithin shape) (IsWithin widest)
+      (λ t in_it. (
+        (omega (arith, in_it.0.0, few_modules), omega (arith, in_it.0.1, few_modules)),
+        (omega (arith, in_it.1.0, few_blocks), omega (arith, in_it.1.1, few_blocks)),
+      )) batch is.within;
 }
 
 -- ---- plans
 
-pub plan_is : (planning : Planning) (batch : List Transfer) (settings : List (List ℕ)) (named : Naming) → IsPlannedAs planning batch settings named → IsPlanOf planning batch settings
+pub plan_is : (planning : Planning) (batch : List Transfer) (settings : List (List ℕ)) (named : Naming) → IsPlannedAs planning batch settings named
+    → IsPlanOf planning batch settings
 plan_is Plain batch settings named is =
     let so = certified_plan Plain batch settings named is in
     record { shortest = certified batch settings named so.schedule so.certificate; at_need = λ steady. absurd (cc) }
@@ -41,7 +47,8 @@ plan_is Steady batch settings named is =
     let so = certified_plan Steady batch settings named is in
     record { shortest = certified batch settings named so.schedule so.certificate; at_need = λ steady. is.at_need }
 
-pub planned : (planning : Planning) (text : List ℕ) (printed : Printed) → printed.status ≡ DONE → IsPlanned planning widest text printed → HasPlanned planning text printed.text
+pub planned : (planning : Planning) (text : List ℕ) (printed : Printed) → printed.status ≡ DONE → IsPlanned planning widest text printed
+    → HasPlanned planning text printed.text
 planned planning text printed status (answers.planned batch denotes plan done) = record {
   batch = batch;
   settings = plan.settings;

@@ -9,23 +9,25 @@ use Rattle.command_words.specs.declared.jobs.Job.TheVariants.{Ports as OverPorts
 use Rattle.command_words.specs.declared.jobs.PortJob.TheVariants.{C004}
 use Rattle.drive_answers.specs.Ways.{Ways}
 use Rattle.exchange.proofs.AskedJobs.{JobsCome, the_run}
-use Rattle.exchange.proofs.EndStatuses.{gave_up, never_done}
+use Rattle.exchange.proofs.EndStatuses.{gave_up, given_up, never_done}
 use Rattle.exchange.proofs.HeldFiles.{held_files, pass}
 use Rattle.exchange.specs.Promises.{AsksFor, Comes, HasGivenUp, HasReplied, Run}
 use Rattle.exchange.specs.Responses.{Given, IsC004By, Named}
 use Rattle.named_files.specs.Contents.{AreContents, Holding}
-use Rattle.named_files.specs.declared.refusal_cause.RefusalCause.TheVariants as why
 use Rattle.plan_answers.specs.Refusals.{Printed}
 use Rattle.plan_answers.specs.declared.limits.TheConstants.{DONE, REFUSED}
 
 -- no file was read
-none_read : (holds : Holding) (input : Option (List ℕ)) (texts : Files (List ℕ)) (rest : Option (List ℕ)) → AreContents holds input (files_of (OverPorts C004)) texts rest → rest ≡ input
+none_read : (holds : Holding) (input : Option (List ℕ)) (texts : Files (List ℕ)) (rest : Option (List ℕ)) → AreContents holds input (files_of (OverPorts C004))
+    texts rest → rest ≡ input
 none_read holds input texts rest r =
     pass holds r.3 [] texts.scripts rest tt r.8 ∙ (pass holds r.2 [] (option_to_list texts.wiring) r.3 tt r.7
-    ∙ (pass holds r.1 [] (option_to_list texts.schedule) r.2 tt r.6 ∙ (pass holds r.0 [] (option_to_list texts.list) r.1 tt r.5 ∙ pass holds input [] (option_to_list texts.image) r.0 tt r.4)))
+    ∙ (pass holds r.1 [] (option_to_list texts.schedule) r.2 tt r.6
+    ∙ (pass holds r.0 [] (option_to_list texts.list) r.1 tt r.5 ∙ pass holds input [] (option_to_list texts.image) r.0 tt r.4)))
 
 -- what came is the first part of standard input; at its end it is all
-came_of : (input after : Option (List ℕ)) (came : List ℕ) → Consumes input after came → (rest : List ℕ) × IfSome input (λ known. came ++ rest ≡ known) × (IsAtEnd after → rest ≡ [])
+came_of : (input after : Option (List ℕ)) (came : List ℕ) → Consumes input after came → (rest : List ℕ) × IfSome input (λ known. came ++ rest ≡ known)
+    × (IsAtEnd after → rest ≡ [])
 came_of None after came c = ([], tt, λ end. refl)
 came_of (Some xs) None came c = absurd c
 came_of (Some xs) (Some ys) came c = (ys, sym c, λ end. end)
@@ -34,7 +36,8 @@ module _ (named : Named) (given : Given) (ports : Ways) (words : List Text) (pri
   abbrev The : Run
   The = the_run named given words prints status
 
-  replied : (rest : Option (List ℕ)) (told : List ℕ) (end : Printed) → rest ≡ given.input → (status ≡ DONE → end.status ≡ DONE) → IsC004By rest told end → HasReplied The told
+  replied : (rest : Option (List ℕ)) (told : List ℕ) (end : Printed) → rest ≡ given.input → (status ≡ DONE → end.status ≡ DONE) → IsC004By rest told end
+      → HasReplied The told
   replied rest told end same done (came, dropped, after, switch, consumed, ran, none, how) =
       let left = came_of rest after came consumed in
       record {
@@ -50,7 +53,8 @@ module _ (named : Named) (given : Given) (ports : Ways) (words : List Text) (pri
   none_after : (rest : Option (List ℕ)) (told : List ℕ) (end : Printed) → IsC004By rest told end → prints (told ++ end.text) → prints told
   none_after rest told end by = subst prints (ap (λ (t : List ℕ). told ++ t) by.6 ∙ append-nil told)
 
-  pub replies : (asks : AsksFor The (OverPorts C004)) → JobsCome named given ports The → Comes The (OverPorts C004) (λ texts printed. HasReplied The printed) ⊎ (HasGivenUp The × (status ≡ REFUSED))
+  pub replies : (asks : AsksFor The (OverPorts C004)) → JobsCome named given ports The → Comes The (OverPorts C004) (λ texts printed. HasReplied The printed)
+      ⊎ (HasGivenUp The × (status ≡ REFUSED))
   replies asks come =
       elim (come (record { job = OverPorts C004; is_quiet = asks.0 }) asks.1) [
         | inl r ↦ elim r.is [
@@ -66,7 +70,7 @@ module _ (named : Named) (given : Given) (ports : Ways) (words : List Text) (pri
               )
           | inr none ↦
               let text = subst (λ (told : List ℕ). prints (told ++ r.response.end.text)) none.0 r.prints in
-              inr (gave_up The none.4.0 (subst (λ (p : Printed). prints p.text) none.4.1 text), r.status ∙ ap (λ (p : Printed). p.status) none.4.1)
+              inr (gave_up The r.response.end none.4 text, r.status ∙ given_up r.response.end none.4)
         ]
         | inr other ↦ elim other [
           | inl t ↦
@@ -79,6 +83,6 @@ module _ (named : Named) (given : Given) (ports : Ways) (words : List Text) (pri
                 t.prints by.0,
                 replied is.1 (t.told ++ by.0) by.1 (none_read named.holds given.input is.0 is.1 is.2) (λ done. absurd (never_done status t.status done)) by.2,
               )
-          | inr none ↦ inr (gave_up The why.NoMemory none.prints, none.status)
+          | inr none ↦ inr (inl none.prints, none.status)
         ]
       ]

@@ -21,23 +21,35 @@ use Rattle.rack_answers.specs.Reports.{report_for}
 
 -- ---- schedules
 
-pub scheduled : (from : ScheduleSource (List ℕ)) (text : List ℕ) (batch : List Transfer) (settings : List (List ℕ)) → IsScheduleFrom from widest text batch settings → SaySchedule from text batch settings
+pub scheduled : (from : ScheduleSource (List ℕ)) (text : List ℕ) (batch : List Transfer) (settings : List (List ℕ)) → IsScheduleFrom from widest text batch
+    settings → SaySchedule from text batch settings
 scheduled (source.Plan planning) text batch settings is = (is.0, plan_is planning batch settings is.1.0 is.1.1)
 scheduled (source.Text schedule) text batch settings is = is
 
-pub denoted : (from : ScheduleSource (List ℕ)) (shape : ShapeView) (text : List ℕ) (batch : List Transfer) (settings : List (List ℕ)) → IsScheduleFrom from shape text batch settings → Denotes shape text batch
+pub denoted : (from : ScheduleSource (List ℕ)) (shape : ShapeView) (text : List ℕ) (batch : List Transfer) (settings : List (List ℕ))
+    → IsScheduleFrom from shape text batch settings → Denotes shape text batch
 denoted (source.Plan planning) shape text batch settings is = is.0
 denoted (source.Text schedule) shape text batch settings is = is.texts.batch_read
 
 -- what is scheduled on a rack is so on any
-widely : (from : ScheduleSource (List ℕ)) (shape : ShapeView) (text : List ℕ) (batch : List Transfer) (settings : List (List ℕ)) → shape.modules ≤ MAX_MODULES → shape.blocks ≤ MAX_BLOCKS → IsScheduleFrom from shape text batch settings → IsScheduleFrom from widest text batch settings
+widely : (from : ScheduleSource (List ℕ)) (shape : ShapeView) (text : List ℕ) (batch : List Transfer) (settings : List (List ℕ)) → shape.modules ≤ MAX_MODULES
+    → shape.blocks ≤ MAX_BLOCKS → IsScheduleFrom from shape text batch settings → IsScheduleFrom from widest text batch settings
 widely (source.Plan planning) shape text batch settings modules blocks is = (wider shape text batch modules blocks is.0, is.1)
 widely (source.Text schedule) shape text batch settings modules blocks is =
-    record { certificate = is.certificate; texts = record { batch_read = wider shape text batch modules blocks is.texts.batch_read; schedule_read = is.texts.schedule_read }; valid = is.valid }
+    record {
+      certificate = is.certificate;
+      texts = record {
+        batch_read = wider shape text batch modules blocks is.texts.batch_read;
+        schedule_read =
+            is.texts.schedule_read;
+      };
+      valid = is.valid;
+    }
 
 -- ---- runs
 
-moved : (IsTold : ShapeView → List ℕ → List Transfer → Store → List ℕ → Type 0) (shape : Text) (text : List ℕ) (image : Option (List ℕ)) (printed : List ℕ) → (r : IsResult IsTold shape text image printed) → HasMoved shape image r.transfers r.left
+moved : (IsTold : ShapeView → List ℕ → List Transfer → Store → List ℕ → Type 0) (shape : Text) (text : List ℕ) (image : Option (List ℕ)) (printed : List ℕ)
+    → (r : IsResult IsTold shape text image printed) → HasMoved shape image r.transfers r.left
 moved IsTold shape text image printed r = record {
   extent = r.extent;
   opening = r.is_left.opening;
@@ -48,11 +60,13 @@ moved IsTold shape text image printed r = record {
   placed = r.is_left.is_placed;
 }
 
-same_report : (from : ScheduleSource Text) (text : List ℕ) (batch : List Transfer) (settings : List (List ℕ)) (left : Store) → report_for (source_in from text) batch settings left ≡ report_for from batch settings left
+same_report : (from : ScheduleSource Text) (text : List ℕ) (batch : List Transfer) (settings : List (List ℕ)) (left : Store)
+    → report_for (source_in from text) batch settings left ≡ report_for from batch settings left
 same_report (source.Plan planning) text batch settings left = refl
 same_report (source.Text file) text batch settings left = refl
 
-pub ran_so : (shape : Text) (from : ScheduleSource Text) (texts : Files (List ℕ)) (printed : Printed) → printed.status ≡ DONE → IsRunAnswer (source_in from (text_in texts.schedule)) shape (text_in texts.list) texts.image printed → HasRunBatch shape from texts printed.text
+pub ran_so : (shape : Text) (from : ScheduleSource Text) (texts : Files (List ℕ)) (printed : Printed) → printed.status ≡ DONE
+    → IsRunAnswer (source_in from (text_in texts.schedule)) shape (text_in texts.list) texts.image printed → HasRunBatch shape from texts printed.text
 ran_so shape from texts printed status (ran r done) =
     let source = source_in from (text_in texts.schedule) in
     let text = text_in texts.list in
@@ -60,13 +74,15 @@ ran_so shape from texts printed status (ran r done) =
       transfers = r.transfers;
       settings = r.told.settings;
       left = r.left;
-      said = scheduled source text r.transfers r.told.settings (widely source r.extent text r.transfers r.told.settings r.shape_read.allowed.few_modules r.shape_read.allowed.few_blocks r.told.scheduled);
+      said = scheduled source text r.transfers r.told.settings (widely source r.extent text r.transfers r.told.settings r.shape_read.allowed.few_modules
+          r.shape_read.allowed.few_blocks r.told.scheduled);
       moved = moved (IsReport source) shape text texts.image printed.text r;
       prints = r.told.printed ∙ same_report from (text_in texts.schedule) r.transfers r.told.settings r.left;
     }
 ran_so shape from texts printed status (run_refused refusal wrong line) = absurd (never_done printed.status line.status status)
 
-pub applied : (shape : Text) (text image : List ℕ) (printed : Printed) → printed.status ≡ DONE → IsApplied shape text image printed → HasApplied shape text image printed.text
+pub applied : (shape : Text) (text image : List ℕ) (printed : Printed) → printed.status ≡ DONE → IsApplied shape text image printed
+    → HasApplied shape text image printed.text
 applied shape text image printed status (ran r done) = record {
   transfers = r.transfers;
   left = r.left;

@@ -1,5 +1,6 @@
 -- The promises of `serve`, `host` and `talk`: sessions, and the order of their calls.
-use Rattle.std.proofs.Common.{◌≡◌, ◌≤◌, ◌∙◌, ◌++◌, ◌+◌, ◌||◌, ℕ, Bool, true, false, List, [], ◌∷◌, length, map, fold, Option, Some, None, inl, inr, refl, sym, ap, ap₂, subst, append_assoc, append-nil, arith}
+use Rattle.std.proofs.Common.{◌≡◌, ◌≤◌, ◌∙◌, ◌++◌, ◌+◌, ◌||◌, ℕ, Bool, true, false, List, [], ◌∷◌, length, map, fold, Option, Some, None, inl, inr, refl, sym, ap, ap₂, subst, append_assoc, append-nil}
+use Rattle.std.proofs.Common.{arith}
 use Rattle.std.proofs.lemmas.List.{append_cancel_left}
 use Rattle.std.proofs.lemmas.List.Elements.{recursion_from_All}
 use Rattle.std.specs.Prelude.{IfSome, is_some, slice_get, unwrap_or}
@@ -34,7 +35,8 @@ abbrev pub session_so : ℕ → Option ServeFault → (turns held : List Turned)
 session_so number fault turns held told rest = record { number = number; turns = turns; held = held; told = told; rest = rest; fault = fault }
 
 -- what it read, made and told, as its promise says it
-record HasEndedSo (number : ℕ) (recorded : Bool) (old new : SeatView) (fault : Option ServeFault) (after : Option (List ℕ)) (read : List ℕ) (made : List Entry) (told : List ℕ) : Type 0 where
+record HasEndedSo (number : ℕ) (recorded : Bool) (old new : SeatView) (fault : Option ServeFault) (after : Option (List ℕ)) (read : List ℕ) (made : List Entry)
+    (told : List ℕ) : Type 0 where
   turns : List Turned
   held : List Turned
   left : List ℕ
@@ -53,8 +55,11 @@ no_more None at_end = refl
 no_more (Some bytes) at_end = at_end
 
 -- where all that was asked could be told, and no line is held
-plain : (number : ℕ) (recorded : Bool) (old new : SeatView) (fault : Option ServeFault) (after : Option (List ℕ)) (read : List ℕ) (made : List Entry) (told untold : List ℕ) (turns : List Turned) (left : List ℕ)
-    → IsSession false old new turns read left made (told ++ untold) → new.log ≡ made → EndsSo recorded (session_so number fault turns [] told (left ++ unwrap_or after [])) untold [] fault → HasEndedSo number recorded old new fault after read made told
+plain : (number : ℕ) (recorded : Bool) (old new : SeatView) (fault : Option ServeFault) (after : Option (List ℕ)) (read : List ℕ) (made : List Entry)
+    (told untold : List ℕ) (turns : List Turned) (left : List ℕ)
+    → IsSession false old new turns read left made (told ++ untold) → new.log ≡ made
+    → EndsSo recorded (session_so number fault turns [] told (left ++ unwrap_or after [])) untold [] fault → HasEndedSo number recorded old new fault after
+    read made told
 plain number recorded old new fault after read made told untold turns left s all ends =
     let r = subst (λ (ts : List Turned). IsSession false old new ts read left made (told ++ untold)) (sym (append-nil turns)) s in record {
       turns = turns;
@@ -71,7 +76,8 @@ plain number recorded old new fault after read made told untold turns left s all
       ends = ends;
     }
 
-whole_told : (old new : SeatView) (read : List ℕ) (made : List Entry) (told : List ℕ) (turns : List Turned) (left : List ℕ) → IsSession false old new turns read left made told → IsSession false old new turns read left made (told ++ [])
+whole_told : (old new : SeatView) (read : List ℕ) (made : List Entry) (told : List ℕ) (turns : List Turned) (left : List ℕ) → IsSession false old new turns read
+    left made told → IsSession false old new turns read left made (told ++ [])
 whole_told old new read made told turns left s = subst (λ (x : List ℕ). IsSession false old new turns read left made x) (sym (append-nil told)) s
 
 fetching : (by : ℕ) (command : Option SessionCommand) (es : List Entry) → HasBegunBefore by command es → (id : ℕ) × IsFetching by id es
@@ -88,15 +94,21 @@ fetching by (Some Bye) es none = (0, inl none)
 
 lost_fetching : (by : ℕ) (lost : List LostTurn) → AllByRecursion (IsLostTurn by) lost → length lost ≤ 1 → (id : ℕ) × IsFetching by id (lost_entries lost)
 lost_fetching by [] all one = (0, inl refl)
-lost_fetching by (t ∷ []) all one = subst (λ (es : List Entry). (id : ℕ) × IsFetching by id es) (sym (append-nil t.entries)) (fetching by t.command t.entries all.0.begun)
+lost_fetching by (t ∷ []) all one = subst (λ (es : List Entry). (id : ℕ) × IsFetching by id es) (sym (append-nil t.entries))
+    (fetching by t.command t.entries all.0.begun)
 lost_fetching by (t ∷ u ∷ more) all one = absurd (omega (arith, one))
 
-ended_so : (number : ℕ) (recorded : Bool) (fault : Option ServeFault) (after : Option (List ℕ)) (old new : SeatView) (read : List ℕ) (made : List Entry) (told : List ℕ) → old.log ≡ [] → old.session ≡ number → new.asked ≡ made → (recorded ≡ false → old.loses ≡ false) → (fault ≡ Some Record → recorded ≡ true) → HasEnded fault after old new read made told → HasEndedSo number recorded old new fault after read made told
+ended_so : (number : ℕ) (recorded : Bool) (fault : Option ServeFault) (after : Option (List ℕ)) (old new : SeatView) (read : List ℕ) (made : List Entry)
+    (told : List ℕ) → old.log ≡ [] → old.session ≡ number → new.asked ≡ made → (recorded ≡ false → old.loses ≡ false) → (fault ≡ Some Record → recorded ≡ true)
+    → HasEnded fault after old new read made told → HasEndedSo number recorded old new fault after read made told
 ended_so number recorded None after old new read made told none its same keeps lost (turns, left, s, inl whole, all) =
-    plain number recorded old new None after read made told [] turns left (whole_told old new read made told turns left s) (all ∙ same) (refl, refl, refl, inl (whole.0, ap₂ (λ (x y : List ℕ). x ++ y) whole.1 (no_more after whole.2)))
+    plain number recorded old new None after read made told [] turns left (whole_told old new read made told turns left s) (all ∙ same)
+    (refl, refl, refl, inl (whole.0, ap₂ (λ (x y : List ℕ). x ++ y) whole.1 (no_more after whole.2)))
 ended_so number recorded None after old new read made told none its same keeps lost (turns, left, s, inr bye, all) =
-    plain number recorded old new None after read made told [] turns left (whole_told old new read made told turns left s) (all ∙ same) (refl, refl, refl, inr bye)
-ended_so number recorded (Some Write) after old new read made told none its same keeps lost c = plain number recorded old new (Some Write) after read made told c.missing c.turns c.rest c.session (c.recorded ∙ same) (refl, refl, c.may_end, c.few, λ unrecorded. c.last (keeps unrecorded))
+    plain number recorded old new None after read made told [] turns left (whole_told old new read made told turns left s) (all ∙ same)
+    (refl, refl, refl, inr bye)
+ended_so number recorded (Some Write) after old new read made told none its same keeps lost c = plain number recorded old new (Some Write) after read made told
+    c.missing c.turns c.rest c.session (c.recorded ∙ same) (refl, refl, c.may_end, c.few, λ unrecorded. c.last (keeps unrecorded))
 ended_so number recorded (Some Record) after old new read made told none its same keeps lost b = record {
   turns = b.turns;
   held = b.held;
@@ -109,17 +121,29 @@ ended_so number recorded (Some Record) after old new read made told none its sam
   entries = b.entries_are ∙ ap (λ (x : List Entry). x ++ lost_entries b.lost) b.session.entries_are;
   stand = subst (λ (x : List Entry). IsPrefix (x ++ added_entries b.turns) new.log) none b.recorded;
   readings = b.session.readings;
-  ends = (lost refl, refl, subst (λ (n : ℕ). (id : ℕ) × IsFetching n id (lost_entries b.lost)) its (lost_fetching old.session b.lost b.are_lost b.one), b.may_end, b.few);
+  ends = (
+    lost refl,
+    refl,
+    subst (λ (n : ℕ). (id : ℕ) × IsFetching n id (lost_entries b.lost)) its (lost_fetching old.session b.lost b.are_lost b.one),
+    b.may_end,
+    b.few,
+  );
 }
-ended_so number recorded (Some Read) after old new read made told none its same keeps lost e = plain number recorded old new (Some Read) after read made told [] e.0 e.1 (whole_told old new read made told e.0 e.1 e.2) (e.5 ∙ same) (refl, refl, refl, e.3)
-ended_so number recorded (Some LineTooLong) after old new read made told none its same keeps lost e = plain number recorded old new (Some LineTooLong) after read made told [] e.0 e.1 (whole_told old new read made told e.0 e.1 e.2) (e.5 ∙ same) (refl, refl, refl, e.3)
-ended_so number recorded (Some Cut) after old new read made told none its same keeps lost e = plain number recorded old new (Some Cut) after read made told [] e.0 e.1 (whole_told old new read made told e.0 e.1 e.2) (e.5 ∙ same) (refl, refl, refl, e.3)
-ended_so number recorded (Some Turns) after old new read made told none its same keeps lost e = plain number recorded old new (Some Turns) after read made told [] e.0 e.1 (whole_told old new read made told e.0 e.1 e.2) (e.5 ∙ same) (refl, refl, refl, e.3)
-ended_so number recorded (Some NoMemory) after old new read made told none its same keeps lost e = plain number recorded old new (Some NoMemory) after read made told [] e.0 e.1 (whole_told old new read made told e.0 e.1 e.2) (e.5 ∙ same) (refl, refl, refl, e.3)
+ended_so number recorded (Some Read) after old new read made told none its same keeps lost e = plain number recorded old new (Some Read) after read made told []
+    e.0 e.1 (whole_told old new read made told e.0 e.1 e.2) (e.5 ∙ same) (refl, refl, refl, e.3)
+ended_so number recorded (Some LineTooLong) after old new read made told none its same keeps lost e = plain number recorded old new (Some LineTooLong) after
+    read made told [] e.0 e.1 (whole_told old new read made told e.0 e.1 e.2) (e.5 ∙ same) (refl, refl, refl, e.3)
+ended_so number recorded (Some Cut) after old new read made told none its same keeps lost e = plain number recorded old new (Some Cut) after read made told []
+    e.0 e.1 (whole_told old new read made told e.0 e.1 e.2) (e.5 ∙ same) (refl, refl, refl, e.3)
+ended_so number recorded (Some Turns) after old new read made told none its same keeps lost e = plain number recorded old new (Some Turns) after read made told
+    [] e.0 e.1 (whole_told old new read made told e.0 e.1 e.2) (e.5 ∙ same) (refl, refl, refl, e.3)
+ended_so number recorded (Some NoMemory) after old new read made told none its same keeps lost e = plain number recorded old new (Some NoMemory) after read made
+    told [] e.0 e.1 (whole_told old new read made told e.0 e.1 e.2) (e.5 ∙ same) (refl, refl, refl, e.3)
 
 -- ---- one session
 
-read_so : (before after : Option (List ℕ)) (read front left : List ℕ) → Consumes before after read → read ≡ front ++ left → IfSome before (λ text. text ≡ front ++ (left ++ unwrap_or after []))
+read_so : (before after : Option (List ℕ)) (read front left : List ℕ) → Consumes before after read → read ≡ front ++ left
+    → IfSome before (λ text. text ≡ front ++ (left ++ unwrap_or after []))
 read_so None after read front left c is = tt
 read_so (Some xs) None read front left c is = absurd c
 read_so (Some xs) (Some ys) read front left c is = c ∙ ap (λ (x : List ℕ). x ++ ys) is ∙ append_assoc front left ys
@@ -138,9 +162,11 @@ pub record IsSeen (b : Beginning) (calls : Calls) (came : Option (List ℕ)) (t 
   pub seen : AreReadings b.seen t.part.seen (all_turns s)
   pub is : IsSessionOf calls came s
 
-pub one_session : (b : Beginning) (calls : Calls) (before after : Option (List ℕ)) (t : Transcript) → b.shape ≡ calls.opening.shape → b.loses ≡ calls.recorded → IsServedSession b before after t → HasOwn calls t.part → (s : Session) × IsSeen b calls before t s
+pub one_session : (b : Beginning) (calls : Calls) (before after : Option (List ℕ)) (t : Transcript) → b.shape ≡ calls.opening.shape → b.loses ≡ calls.recorded
+    → IsServedSession b before after t → HasOwn calls t.part → (s : Session) × IsSeen b calls before t s
 one_session b calls before after t shape recorded h owns =
-    let e = ended_so t.part.session calls.recorded t.fault after h.seat _ h.read t.part.asked t.told h.is_new.log h.is_new.session_is refl (λ none. h.is_new.loses_is ∙ recorded ∙ none) (λ is. sym recorded ∙ h.lost is) h.ended in
+    let e = ended_so t.part.session calls.recorded t.fault after h.seat _ h.read t.part.asked t.told h.is_new.log h.is_new.session_is refl
+    (λ none. h.is_new.loses_is ∙ recorded ∙ none) (λ is. sym recorded ∙ h.lost is) h.ended in
     let turns = e.turns ++ e.held in (
       session_so t.part.session t.fault e.turns e.held t.told (e.left ++ unwrap_or after []),
       record {
@@ -154,7 +180,8 @@ one_session b calls before after t shape recorded h owns =
           untold = e.untold;
           unseen = e.unseen;
           read = read_so before after h.read (flat_map turn_text turns) e.left h.consumed e.bytes;
-          each = subst (λ (n : ℕ). AllByRecursion (IsTurn calls.opening.shape n) turns) h.is_new.session_is (subst (λ (x : ShapeView). AllByRecursion (IsTurn x h.seat.session) turns) (h.is_new.shape_is ∙ shape) e.each);
+          each = subst (λ (n : ℕ). AllByRecursion (IsTurn calls.opening.shape n) turns) h.is_new.session_is
+              (subst (λ (x : ShapeView). AllByRecursion (IsTurn x h.seat.session) turns) (h.is_new.shape_is ∙ shape) e.each);
           lines = e.lines;
           entries = sym owns.0 ∙ e.entries;
           stand = starts_then (added_entries e.turns) t.part.log (own t.part.session calls.standing) e.stand owns.1;
@@ -181,7 +208,15 @@ seen_within turns low high most le r = record { low = r.low; high = none_ahead t
 
 -- the calls of a book that sessions leave, which they began with these
 abbrev pub calls_of : Bool → Store → (earlier made standing : List Entry) → BookView → Calls
-calls_of loses opening earlier made standing book = record { opening = opening; earlier = earlier; made = made; recorded = loses; standing = standing; left = book.machine }
+calls_of loses opening earlier made standing book = record {
+  opening = opening;
+  earlier = earlier;
+  made = made;
+  recorded = loses;
+  standing = standing;
+  left =
+      book.machine;
+}
 
 -- the calls are those of the book
 pub record AreCallsOf (calls : Calls) (book : BookView) : Type 0 where
@@ -193,34 +228,39 @@ pub record AreCallsOf (calls : Calls) (book : BookView) : Type 0 where
 -- what starts another after the same
 same_behind : (earlier standing made : List Entry) → IsPrefix (earlier ++ standing) (earlier ++ made) → IsPrefix standing made
 same_behind earlier standing made is =
-    let f = front (earlier ++ standing) (earlier ++ made) is in starts standing made f.0 (append_cancel_left earlier made (standing ++ f.0) (f.1 ∙ append_assoc earlier standing f.0))
+    let f = front (earlier ++ standing) (earlier ++ made) is in starts standing made f.0
+    (append_cancel_left earlier made (standing ++ f.0) (f.1 ∙ append_assoc earlier standing f.0))
 
 -- the book is whole, where it can't lose an entry
 whole_so : (whole loses : Bool) → (whole ≡ false → loses ≡ true) → loses ≡ false → whole ≡ true
 whole_so true loses lost none = refl
 whole_so false loses lost none = absurd (let bad : false ≡ true = sym none ∙ lost refl in cc)
 
-module _ (loses : Bool) (opening : Store) (earlier : List Entry) (parts : List Part) (book : BookView) (one : HaveOneHistory loses opening earlier parts book) where
-  abbrev pub theirs : Calls
-  theirs = calls_of loses opening earlier one.made one.standing book
+module _ (loses : Bool) (opening : Store) (earlier : List Entry) (parts : List Part) (book : BookView) (one : HaveOneHistory loses opening earlier parts book)
+  where
+    abbrev pub theirs : Calls
+    theirs = calls_of loses opening earlier one.made one.standing book
 
-  pub are_calls : AreCallsOf theirs book
-  are_calls = record { opening = sym one.is_opening; entries = sym one.are; machine = refl; stand = sym one.stand }
+    pub are_calls : AreCallsOf theirs book
+    are_calls = record { opening = sym one.is_opening; entries = sym one.are; machine = refl; stand = sym one.stand }
 
-  pub all_own : AllByRecursion (HasOwn theirs) parts
-  all_own = every_both (λ (p : Part). p.asked ≡ own p.session one.made) (λ (p : Part). IsPrefix p.log (own p.session one.standing)) (HasOwn theirs) parts (λ p asked log. (asked, log)) (recursion_from_All _ parts one.are_parts) (recursion_from_All _ parts one.recorded)
+    pub all_own : AllByRecursion (HasOwn theirs) parts
+    all_own = every_both (λ (p : Part). p.asked ≡ own p.session one.made) (λ (p : Part). IsPrefix p.log (own p.session one.standing)) (HasOwn theirs) parts
+        (λ p asked log. (asked, log)) (recursion_from_All _ parts one.are_parts) (recursion_from_All _ parts one.recorded)
 
-  pub in_order : (ss : List Session) → fold (λ a (s : Session). a + length (own s.number one.made)) 0 ss ≡ fold (λ a (p : Part). a + length p.asked) 0 parts → AllByRecursion (λ (s : Session). AreReadings (greatest earlier) (greatest book.history) (all_turns s)) ss → HaveOneOrder theirs ss
-  in_order ss same seen = record {
-    right = subst (λ (es : List Entry). IsReplay (opened opening) es book.machine) one.are one.replay;
-    no_other = one.counted ∙ sym same;
-    front = same_behind earlier one.standing one.made (subst (λ (x : List Entry). IsPrefix x (earlier ++ one.made)) one.stand (subst (λ (x : List Entry). IsPrefix book.durable x) one.are one.front));
-    unstopped = subst AreUnstopped one.are one.unstopped;
-    seen = subst (λ (es : List Entry). AllByRecursion (λ (s : Session). AreReadings (greatest earlier) (greatest es) (all_turns s)) ss) one.are seen;
-  }
+    pub in_order : (ss : List Session) → fold (λ a (s : Session). a + length (own s.number one.made)) 0 ss ≡ fold (λ a (p : Part). a + length p.asked) 0 parts
+        → AllByRecursion (λ (s : Session). AreReadings (greatest earlier) (greatest book.history) (all_turns s)) ss → HaveOneOrder theirs ss
+    in_order ss same seen = record {
+      right = subst (λ (es : List Entry). IsReplay (opened opening) es book.machine) one.are one.replay;
+      no_other = one.counted ∙ sym same;
+      front = same_behind earlier one.standing one.made
+          (subst (λ (x : List Entry). IsPrefix x (earlier ++ one.made)) one.stand (subst (λ (x : List Entry). IsPrefix book.durable x) one.are one.front));
+      unstopped = subst AreUnstopped one.are one.unstopped;
+      seen = subst (λ (es : List Entry). AllByRecursion (λ (s : Session). AreReadings (greatest earlier) (greatest es) (all_turns s)) ss) one.are seen;
+    }
 
-  pub all_stand : loses ≡ false → one.standing ≡ one.made
-  all_stand none = append_cancel_left earlier one.standing one.made (sym one.stand ∙ one.whole (whole_so book.whole loses one.lost none) ∙ one.are)
+    pub all_stand : loses ≡ false → one.standing ≡ one.made
+    all_stand none = append_cancel_left earlier one.standing one.made (sym one.stand ∙ one.whole (whole_so book.whole loses one.lost none) ∙ one.are)
 
 -- ---- the sessions of scripts
 
@@ -229,12 +269,16 @@ pub record AreSeen (b : Beginning) (calls : Calls) (texts : List (List ℕ)) (ts
   pub each : AllByRecursion (λ (s : Session). IsSessionOf calls (slice_get texts s.number) s) ss
   pub text : sessions_text ts ≡ flat_map told_text ss
   pub failed : list_any (λ (t : Transcript). is_some t.fault) ts ≡ list_any (λ (s : Session). is_some s.fault) ss
-  pub entries : (n : ℕ) → fold (λ a (s : Session). a + length (own s.number calls.made)) n ss ≡ fold (λ a (p : Part). a + length p.asked) n (map (λ (t : Transcript). t.part) ts)
-  pub seen : (most : ℕ) → AllByRecursion (λ (p : Part). p.seen ≤ most) (map (λ (t : Transcript). t.part) ts) → AllByRecursion (λ (s : Session). AreReadings b.seen most (all_turns s)) ss
+  pub entries : (n : ℕ) → fold (λ a (s : Session). a + length (own s.number calls.made)) n ss ≡ fold (λ a (p : Part). a + length p.asked) n
+      (map (λ (t : Transcript). t.part) ts)
+  pub seen : (most : ℕ) → AllByRecursion (λ (p : Part). p.seen ≤ most) (map (λ (t : Transcript). t.part) ts)
+      → AllByRecursion (λ (s : Session). AreReadings b.seen most (all_turns s)) ss
 
-pub all_sessions : (b : Beginning) (calls : Calls) (texts : List (List ℕ)) (ts : List Transcript) → b.shape ≡ calls.opening.shape → b.loses ≡ calls.recorded → AllByRecursion (HasItsScript b texts) ts → AllByRecursion (HasOwn calls) (map (λ (t : Transcript). t.part) ts)
+pub all_sessions : (b : Beginning) (calls : Calls) (texts : List (List ℕ)) (ts : List Transcript) → b.shape ≡ calls.opening.shape → b.loses ≡ calls.recorded
+    → AllByRecursion (HasItsScript b texts) ts → AllByRecursion (HasOwn calls) (map (λ (t : Transcript). t.part) ts)
     → (ss : List Session) × AreSeen b calls texts ts ss
-all_sessions b calls texts [] shape recorded each owns = ([], record { numbers = refl; each = tt; text = refl; failed = refl; entries = λ n. refl; seen = λ most all. tt })
+all_sessions b calls texts [] shape recorded each owns =
+    ([], record { numbers = refl; each = tt; text = refl; failed = refl; entries = λ n. refl; seen = λ most all. tt })
 all_sessions b calls texts (t ∷ ts) shape recorded each owns =
     let has = each.0 in
     let one = one_session b calls (Some has.0) (Some has.1) t shape recorded has.3 owns.0 in
@@ -246,7 +290,8 @@ all_sessions b calls texts (t ∷ ts) shape recorded each owns =
         each = (subst (λ (c : Option (List ℕ)). IsSessionOf calls c one.0) (sym its) one.1.is, more.1.each);
         text = ap₂ (λ (x y : List ℕ). x ++ y) one.1.text more.1.text;
         failed = ap₂ ◌||◌ (ap (λ (o : Option ServeFault). is_some o) (sym one.1.fault)) more.1.failed;
-        entries = λ n. ap (λ (es : List Entry). fold (λ a (s : Session). a + length (own s.number calls.made)) (n + length es) more.0) one.1.own_are ∙ more.1.entries (n + length t.part.asked);
+        entries = λ n. ap (λ (es : List Entry). fold (λ a (s : Session). a + length (own s.number calls.made)) (n + length es) more.0) one.1.own_are
+            ∙ more.1.entries (n + length t.part.asked);
         seen = λ most all. (seen_within (all_turns one.0) b.seen t.part.seen most all.0 one.1.seen, more.1.seen most all.1);
       },
     )

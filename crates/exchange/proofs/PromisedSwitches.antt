@@ -48,23 +48,28 @@ use Rattle.batch.specs.Text.{IsNumber}
 
 -- ---- schedules
 
-pub schedule_of : (from : ScheduleSource (List ℕ)) (text : List ℕ) (batch : List Transfer) (settings : List (List ℕ)) → SaySchedule from text batch settings → IsScheduleOf batch settings
+pub schedule_of : (from : ScheduleSource (List ℕ)) (text : List ℕ) (batch : List Transfer) (settings : List (List ℕ)) → SaySchedule from text batch settings
+    → IsScheduleOf batch settings
 schedule_of (source.Plan planning) text batch settings is = is.1.shortest.schedule
 schedule_of (source.Text schedule) text batch settings is = is.valid
 
-pub batch_of : (from : ScheduleSource (List ℕ)) (text : List ℕ) (batch : List Transfer) (settings : List (List ℕ)) → IsScheduleFrom from widest text batch settings → IsBatch batch
+pub batch_of : (from : ScheduleSource (List ℕ)) (text : List ℕ) (batch : List Transfer) (settings : List (List ℕ)) → IsScheduleFrom from widest text batch
+    settings → IsBatch batch
 batch_of from text batch settings is = let reads = denoted from widest text batch settings is in record { few = reads.few; within = reads.within }
 
 -- ---- what a switch is sent
 
 -- what turns a switch asks for no reply
-quiet_turning : (wiring : Wiring) (standing : Option (List Pair)) (pairs : List Pair) → IfSome standing (ArePairs (room_of wiring)) → ArePairs (room_of wiring) pairs → enquiries (turning wiring standing pairs) ≡ 0
+quiet_turning : (wiring : Wiring) (standing : Option (List Pair)) (pairs : List Pair) → IfSome standing (ArePairs (room_of wiring))
+    → ArePairs (room_of wiring) pairs → enquiries (turning wiring standing pairs) ≡ 0
 quiet_turning wiring None pairs were are = (setting_commands wiring pairs are).1
 quiet_turning wiring (Some old) pairs were are = (change_commands wiring old pairs were are).1
 
-module _ (batch : List Transfer) (settings : List (List ℕ)) (fits : IsBatch batch) (is : IsScheduleOf batch settings) (wiring : Wiring) (has : HasModulesOf (room_of wiring) batch) where
+module _ (batch : List Transfer) (settings : List (List ℕ)) (fits : IsBatch batch) (is : IsScheduleOf batch settings) (wiring : Wiring)
+    (has : HasModulesOf (room_of wiring) batch) where
   pairs_there : (k : ℕ) → k < length settings → ArePairs (room_of wiring) (pairs_at batch settings k)
-  pairs_there k lt = ordered_pairs (room_of wiring) batch (numbers_in settings k) (record { fits = fits; known = is.no_other k [] lt; matching = is.matchings k [] lt }) has
+  pairs_there k lt = ordered_pairs (room_of wiring) batch (numbers_in settings k)
+      (record { fits = fits; known = is.no_other k [] lt; matching = is.matchings k [] lt }) has
 
   standing : (k : ℕ) → k < length settings → IfSome (standing_before batch settings k) (ArePairs (room_of wiring))
   standing zero lt = tt
@@ -78,14 +83,17 @@ module _ (batch : List Transfer) (settings : List (List ℕ)) (fits : IsBatch ba
     held = λ k lt same. held_is_settled batch settings k wiring fits is lt same;
   }
 
-turned : (batch : List Transfer) (settings : List (List ℕ)) (board : Option BoardWiring) (wide : Bool) → IsBatch batch → IsScheduleOf batch settings → HasModulesOf (joined_on board wide) batch → AllByRecursion (λ (one : Chip × Wiring). Turn one.1 batch settings (sent_for one.1 batch settings)) (switches_of board wide)
+turned : (batch : List Transfer) (settings : List (List ℕ)) (board : Option BoardWiring) (wide : Bool) → IsBatch batch → IsScheduleOf batch settings
+    → HasModulesOf (joined_on board wide) batch → AllByRecursion (λ (one : Chip × Wiring). Turn one.1 batch settings (sent_for one.1 batch settings))
+    (switches_of board wide)
 turned batch settings None true fits is has = (turns batch settings fits is Forth has, (turns batch settings fits is Back has, tt))
 turned batch settings None false fits is has = (turns batch settings fits is Both has, tt)
 turned batch settings (Some w) wide fits is has = (turns batch settings fits is (Board w) has, tt)
 
 -- ---- `switch`
 
-switched : (from : ScheduleSource Text) (has_two : Bool) (texts : Files (List ℕ)) (board : Option BoardText) (printed : Printed) → IsBoardOf texts.wiring board → printed.status ≡ DONE
+switched : (from : ScheduleSource Text) (has_two : Bool) (texts : Files (List ℕ)) (board : Option BoardText) (printed : Printed) → IsBoardOf texts.wiring board
+    → printed.status ≡ DONE
     → IsSwitched (source_in from (text_in texts.schedule)) has_two board (text_in texts.list) printed → HasSwitched from has_two texts printed.text
 switched from has_two texts board printed of status (switching.switched wiring transfers settings is ways filled tells) =
     let source = source_in from (text_in texts.schedule) in
@@ -99,27 +107,34 @@ switched from has_two texts board printed of status (switching.switched wiring t
       sent = λ one. sent_for one transfers settings;
       said = said;
       wired = (board, of, filled, ways);
-      turned = turned transfers settings wiring (has_two || is_wide transfers) fits (schedule_of source text transfers settings said) (all_joined board wiring has_two transfers fits filled ways);
+      turned = turned transfers settings wiring (has_two || is_wide transfers) fits (schedule_of source text transfers settings said)
+          (all_joined board wiring has_two transfers fits filled ways);
       prints = tells.0;
     }
 switched from has_two texts board printed of status (switching.lacking refusal lacks line) = absurd (never_done printed.status line.status status)
 switched from has_two texts board printed of status (switching.wrong refusal wrong has line) = absurd (never_done printed.status line.status status)
 
 -- the same where the board is that of the wiring's text, if there is one
-on_board : (from : ScheduleSource Text) (has_two : Bool) (texts : Files (List ℕ)) (wiring : Option (List ℕ)) (printed : Printed) → texts.wiring ≡ wiring → printed.status ≡ DONE
-    → IsOn (λ board. IsSwitched (source_in from (text_in texts.schedule)) has_two board (text_in texts.list)) wiring printed → HasSwitched from has_two texts printed.text
-on_board from has_two texts None printed same status is = switched from has_two texts None printed (subst (λ (w : Option (List ℕ)). IsBoardOf w None) (sym same) tt) status is
-on_board from has_two texts (Some wiring) printed same status (switching.wired board denotes is) = switched from has_two texts (Some board) printed (subst (λ (w : Option (List ℕ)). IsBoardOf w (Some board)) (sym same) denotes) status is
+on_board : (from : ScheduleSource Text) (has_two : Bool) (texts : Files (List ℕ)) (wiring : Option (List ℕ)) (printed : Printed) → texts.wiring ≡ wiring
+    → printed.status ≡ DONE
+    → IsOn (λ board. IsSwitched (source_in from (text_in texts.schedule)) has_two board (text_in texts.list)) wiring printed
+    → HasSwitched from has_two texts printed.text
+on_board from has_two texts None printed same status is = switched from has_two texts None printed
+    (subst (λ (w : Option (List ℕ)). IsBoardOf w None) (sym same) tt) status is
+on_board from has_two texts (Some wiring) printed same status (switching.wired board denotes is) = switched from has_two texts (Some board) printed
+    (subst (λ (w : Option (List ℕ)). IsBoardOf w (Some board)) (sym same) denotes) status is
 on_board from has_two texts (Some wiring) printed same status (switching.miswired fault wrong line) = absurd (never_done printed.status line.status status)
 
 pub switched_so : (from : ScheduleSource Text) (has_two : Bool) (texts : Files (List ℕ)) (printed : Printed) → printed.status ≡ DONE
-    → IsOn (λ board. IsSwitched (source_in from (text_in texts.schedule)) has_two board (text_in texts.list)) texts.wiring printed → HasSwitched from has_two texts printed.text
+    → IsOn (λ board. IsSwitched (source_in from (text_in texts.schedule)) has_two board (text_in texts.list)) texts.wiring printed
+    → HasSwitched from has_two texts printed.text
 switched_so from has_two texts printed status is = on_board from has_two texts texts.wiring printed refl status is
 
 -- ---- `orders`
 
 -- a text can say how many settings there are
-few_settings : (from : ScheduleSource (List ℕ)) (text : List ℕ) (batch : List Transfer) (settings : List (List ℕ)) → IsBatch batch → IsScheduleFrom from widest text batch settings → IsNumber (length settings)
+few_settings : (from : ScheduleSource (List ℕ)) (text : List ℕ) (batch : List Transfer) (settings : List (List ℕ)) → IsBatch batch
+    → IsScheduleFrom from widest text batch settings → IsNumber (length settings)
 few_settings (source.Plan planning) text batch settings fits is = (plan_can_say planning batch settings is.1.0 fits is.1.1).settings_fit.count
 few_settings (source.Text schedule) text batch settings fits is = is.texts.schedule_read.can_say.settings_fit.count
 
@@ -141,7 +156,9 @@ ordered from only texts printed status (ordering.ordered transfers settings is (
             (some.0, run_is_obeyed transfers settings opening some.0 (record { apart = apart; schedule = valid; whole = whole; places = places }) some.1),
             λ left are. obeyed_is_placed transfers settings opening left (record { apart = apart; schedule = valid; whole = whole; places = places }) are,
           );
-      tells = subst (λ (text : List ℕ). Tells text (told_to only (orders_of transfers settings))) (sym told) (text_tells transfers settings only fits valid (few_settings source text transfers settings fits is));
+      tells = subst (λ (text : List ℕ). Tells text (told_to only (orders_of transfers settings))) (sym told)
+          (text_tells transfers settings only fits valid (few_settings source text transfers settings fits is));
     }
-ordered from only texts printed status (ordering.ordered transfers settings is (ordering.overlap i j first line)) = absurd (never_done printed.status line.status status)
+ordered from only texts printed status (ordering.ordered transfers settings is (ordering.overlap i j first line)) =
+    absurd (never_done printed.status line.status status)
 ordered from only texts printed status (ordering.wrong refusal wrong line) = absurd (never_done printed.status line.status status)

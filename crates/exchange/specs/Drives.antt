@@ -21,8 +21,8 @@ IsDriveBy source batch wiring first goes_on names input was opens told end =
     × IsDriveAnswer (TellsLine (not goes_on)) source batch wiring first names was opens
     (record { told = []; left = input }) (record { told = told; left = left }) end
 
--- Settings stood and were told over the ports of these names, but that the line of the last one could
--- be told in part alone.
+-- Settings stood and were told over the ports of these names, but that the line of the last one
+-- could be told in part alone.
 abbrev pub IsDriveCut : ScheduleSource (List ℕ) → List ℕ → Option (List ℕ) → ℕ → Bool → Names
     → Option (List ℕ) → Ways → Ways → List ℕ → Type 0
 IsDriveCut source batch wiring first goes_on names input was opens told =

@@ -1,5 +1,6 @@
 -- How the program ends.
-use Rattle.std.specs.Prelude.{◌≡◌, ◌≢◌, ◌⊎◌, ◌++◌, ℕ, List, [], Option, None, Result, Ok, Err, IfErr, IfOk, OnErr, OnOk, ⊤}
+use Rattle.std.specs.Prelude.{◌≡◌, ◌≢◌, ◌⊎◌, ◌++◌, ℕ, List, [], Option, None, Result, Ok, Err}
+use Rattle.std.specs.Prelude.{IfErr, IfOk, OnErr, OnOk, ⊤}
 use Rattle.std.specs.Io.KnownBytes.{Appends}
 use Rattle.batch_book.specs.History.{BookView}
 use Rattle.plan_answers.specs.Refusals.{Printed}
@@ -11,7 +12,7 @@ use Rattle.command_words.specs.declared.jobs.ArgumentsFault.{ArgumentsFault}
 use Rattle.command_words.specs.declared.jobs.ArgumentsFault.TheVariants as arguments_fault
 use Rattle.command_words.specs.Jobs.{AskFor, AsksForHelp, IsFaultIn, file_uses}
 use Rattle.exchange.specs.declared.limits.TheConstants.{MISUSED}
-use Rattle.named_files.specs.declared.refusal_cause.RefusalCause.TheVariants.{NoMemory}
+use Rattle.refusals.specs.declared.refusal.Refusal.TheVariants.{NoMemory}
 use Rattle.session_answers.specs.HostAnswers.{SessionEnd}
 use Rattle.exchange.specs.Responses.{Given, IsJobAnswer, IsJobCut, IsResponseTo, Named, Response}
 use Rattle.named_files.specs.Notes.{unanswered, IsToldInPart}
@@ -26,7 +27,9 @@ use Rattle.named_files.specs.Streams.{Closed}
 use Rattle.named_files.specs.declared.outputs.Receipts.{Receipts}
 use Rattle.exchange.specs.declared.answered.NotedAnswer.{NotedAnswer}
 use Rattle.named_files.specs.declared.output_failure.OutputFailure.{OutputFailure}
-use Rattle.named_files.specs.declared.output_failure.OutputFailure.TheVariants.{Answer, SessionFiles, Nowhere, Setting}
+use Rattle.named_files.specs.declared.output_failure.OutputFailure.TheVariants.{Answer}
+use Rattle.named_files.specs.declared.output_failure.OutputFailure.TheVariants.{SessionFiles}
+use Rattle.named_files.specs.declared.output_failure.OutputFailure.TheVariants.{Nowhere, Setting}
 
 -- so is what is left of what was opened for a job, where this comes of it
 abbrev pub Keeping : Type 1

@@ -25,7 +25,8 @@ AreKeptBut holds received job left receipts lost =
 -- all of it went there
 abbrev pub AreKept : {C : Type 0} → Holding → (C → Closed) → Job → Option BookView → Receipts C
     → Type 0
-AreKept holds received job left receipts = AreKeptBut holds received job left receipts no_write_failures
+AreKept holds received job left receipts = AreKeptBut holds received job left receipts
+    no_write_failures
 
 -- all of it, or fronts
 abbrev pub AreKeptInPart : {C : Type 0} → Holding → (C → Closed) → Job → Option BookView

@@ -1,5 +1,6 @@
 -- What is told on standard error beside what is printed.
-use Rattle.std.specs.Prelude.{◌≡◌, ◌≢◌, ◌⊎◌, ◌++◌, ◌<◌, ⊤, ℕ, false, List, [], Option, None, String, codes, string_bytes}
+use Rattle.std.specs.Prelude.{◌≡◌, ◌≢◌, ◌⊎◌, ◌++◌, ◌<◌, ⊤, ℕ, false, List, [], Option, None, String}
+use Rattle.std.specs.Prelude.{codes, string_bytes}
 use Rattle.std.specs.Fmt.{decimal}
 use Rattle.std.specs.Io.KnownBytes.{Appends}
 use Rattle.client_session.specs.Listening.{ListenerLog, TellsOfRefusals}
@@ -21,7 +22,8 @@ use Rattle.named_files.specs.Contents.{AreContents, Holding}
 use Rattle.plan_answers.specs.Drawings.{IsDrawn}
 use Rattle.exchange.specs.declared.warnings.TheConstants.{MAX_DRAWN}
 use Rattle.exchange.specs.Responses.{Given, IsTalk, text_in}
-use Rattle.named_files.specs.Notes.{AreToldLines, HasSecondLine, HasToldLines, IsToldInPart, IsWholeLine}
+use Rattle.named_files.specs.Notes.{AreToldLines, HasSecondLine, HasToldLines, IsToldInPart}
+use Rattle.named_files.specs.Notes.{IsWholeLine}
 
 -- what may be told beside a session of a reply that is a refusal: nothing, or as much of a whole
 -- line as could be written, and of want of memory nothing

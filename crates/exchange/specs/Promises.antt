@@ -1,8 +1,11 @@
 -- What the program promises: for each command, in few definitions, what is so where it is asked for
 -- and ends with status 0, with 1, or with 3. The clause of the function `answer` is
--- `KeepsPromises`, which stands last. It is proved of the contract of `respond`, which nobody has to
--- read to know what it says.
-use Rattle.std.specs.Prelude.{false, true, ◌||◌, ◌≡◌, ◌≢◌, ◌<◌, ◌≤◌, ◌+◌, ℕ, zero, suc, Bool, List, [], ◌∷◌, ◌++◌, ◌⊎◌, All, Option, Some, None, IfSome, MatchOption, ⊤, codes, if◌then◌else◌, is_some, length, map, option_map, option_to_list, slice_get, slice_index_or, sum_by}
+-- `KeepsPromises`, which stands last. It is proved of the contract of `respond`, which nobody has
+-- to read to know what it says.
+use Rattle.std.specs.Prelude.{false, true, ◌||◌, ◌≡◌, ◌≢◌, ◌<◌, ◌≤◌, ◌+◌, ℕ, zero, suc, Bool, List}
+use Rattle.std.specs.Prelude.{[], ◌∷◌, ◌++◌, ◌⊎◌, All, Option, Some, None, IfSome, MatchOption, ⊤}
+use Rattle.std.specs.Prelude.{codes, if◌then◌else◌, is_some, length, map, option_map}
+use Rattle.std.specs.Prelude.{option_to_list, slice_get, slice_index_or, sum_by}
 use Rattle.std.specs.Fmt.{decimal}
 use Rattle.std.specs.List.{AllByRecursion, flat_map, list_any, range_with_len}
 use Rattle.batch.specs.declared.transfer.Transfer.{Transfer}
@@ -14,11 +17,15 @@ use Rattle.c004_commands.specs.Commands.{AreCommands}
 use Rattle.c004_commands.specs.declared.command.Command.{Command}
 use Rattle.clap.specs.Words.{IsAmong, Text}
 use Rattle.clap.specs.declared.error.kind.ErrorKind.TheVariants.{DisplayHelp, DisplayVersion}
-use Rattle.command_words.specs.Jobs.{AskFor, Files, live_names, faults_of, file_uses, files_of, input_name, recorded_in}
+use Rattle.command_words.specs.Jobs.{AskFor, Files, live_names, faults_of, file_uses, files_of}
+use Rattle.command_words.specs.Jobs.{input_name, recorded_in}
 use Rattle.command_words.specs.declared.jobs.Job.{Job}
 use Rattle.command_words.specs.declared.jobs.Job.TheVariants.{Texts, Ports as OverPorts, Sessions}
 use Rattle.command_words.specs.declared.jobs.TextJob.{TextJob}
-use Rattle.command_words.specs.declared.jobs.TextJob.TheVariants.{Apply, Check, Direct, Draw, Orders, Plan, Prices, Replay, Run as RunJob, Switch as SwitchJob}
+use Rattle.command_words.specs.declared.jobs.TextJob.TheVariants.{Apply, Check, Direct, Draw}
+use Rattle.command_words.specs.declared.jobs.TextJob.TheVariants.{Orders, Plan, Prices, Replay}
+use Rattle.command_words.specs.declared.jobs.TextJob.TheVariants.{Run as RunJob}
+use Rattle.command_words.specs.declared.jobs.TextJob.TheVariants.{Switch as SwitchJob}
 use Rattle.command_words.specs.declared.jobs.PortJob.TheVariants.{C004, Drive}
 use Rattle.command_words.specs.declared.jobs.SessionJob.{SessionJob}
 use Rattle.command_words.specs.declared.jobs.SessionJob.TheVariants.{Host, Serve, Talk}
@@ -103,7 +110,8 @@ use Rattle.batch_book.specs.Machine.{Machine, opened}
 use Rattle.batch_book.specs.Seats.{own}
 use Rattle.batch_book.specs.Values.{greatest}
 use Rattle.batch_book.specs.declared.entry.Entry.{Entry}
-use Rattle.client_session.specs.Sessions.{EndByBye, GoOn, IsEndOfLastLine, MayEnd, added_entries, lines_of}
+use Rattle.client_session.specs.Sessions.{EndByBye, GoOn, IsEndOfLastLine, MayEnd, added_entries}
+use Rattle.client_session.specs.Sessions.{lines_of}
 use Rattle.client_session.specs.Turns.{AreReadings, IsFetching, IsTurn, Turn as Turned, turn_text}
 use Rattle.command_words.specs.declared.jobs.Request.{Request}
 use Rattle.command_words.specs.declared.jobs.SharedRack.{SharedRack}
@@ -165,9 +173,9 @@ saved_by received receipts =
       image = option_map received receipts.image;
     }
 
--- what is known of the files of live clients: what comes from one, where that is known; and what one
--- held as it was opened to be written; and how the session of each client ended, with what its file
--- holds then
+-- what is known of the files of live clients: what comes from one, where that is known; and what
+-- one held as it was opened to be written; and how the session of each client ended, with what its
+-- file holds then
 pub record Clients : Type 0 where
   pub comes : Text → Option (List ℕ)
   pub had : Text → List ℕ
@@ -223,7 +231,8 @@ SaySchedule (source.Text schedule) text batch settings =
     IsScheduleRead widest text schedule batch settings
 
 -- the same of the texts of a job's files
-abbrev pub FilesSaySchedule : ScheduleSource Text → Files (List ℕ) → List Transfer → List (List ℕ) → Type 0
+abbrev pub FilesSaySchedule : ScheduleSource Text → Files (List ℕ) → List Transfer → List (List ℕ)
+    → Type 0
 FilesSaySchedule scheduled texts =
     SaySchedule (source_in scheduled (text_in texts.schedule)) (text_in texts.list)
 
@@ -274,8 +283,8 @@ pub record HasPlanned (planning : Planning) (text printed : List ℕ) : Type 0 w
 
 -- ---- 3: checks
 
--- The texts say a batch and a schedule of it, none is shorter, and what is named with it shows that.
--- `shortest S` was printed, and nothing else, where S is how many settings that has.
+-- The texts say a batch and a schedule of it, none is shorter, and what is named with it shows
+-- that. `shortest S` was printed, and nothing else, where S is how many settings that has.
 pub record HasChecked (text schedule printed : List ℕ) : Type 0 where
   pub batch : List Transfer
   pub settings : List (List ℕ)
@@ -288,8 +297,9 @@ pub record HasChecked (text schedule printed : List ℕ) : Type 0 where
 -- ---- 4: runs
 
 -- The word is that of a rack's shape, which has the blocks of the batch, and no two transfers of it
--- write one block. The rack begins with the words of the image, or each tells where it stands. In the
--- words that are left each destination has what its source had before, and all else is as it was.
+-- write one block. The rack begins with the words of the image, or each tells where it stands. In
+-- the words that are left each destination has what its source had before, and all else is as it
+-- was.
 pub record HasMoved (shape : Text) (image : Option (List ℕ)) (batch : List Transfer)
     (left : Store) : Type 0 where
   pub extent : ShapeView
@@ -300,8 +310,8 @@ pub record HasMoved (shape : Text) (image : Option (List ℕ)) (batch : List Tra
   pub begins : IsOfImageOrMarked extent image opening
   pub placed : IsPlaced opening batch left
 
--- The texts say a batch and its schedule, by which it was moved. Printed was the report of that, with
--- the words that it wrote, and nothing else.
+-- The texts say a batch and its schedule, by which it was moved. Printed was the report of that,
+-- with the words that it wrote, and nothing else.
 pub record HasRunBatch (shape : Text) (scheduled : ScheduleSource Text) (texts : Files (List ℕ))
     (printed : List ℕ) : Type 0 where
   pub transfers : List Transfer
@@ -361,8 +371,9 @@ pub record Turn (wiring : Wiring) (batch : List Transfer) (settings : List (List
       → join_same batch (setting_at settings k) (setting_at settings (k + 1)) ≡ true
       → commands (k + 1) ≡ Settle ∷ []
 
--- Printed were, for each setting of a schedule and nothing else, the bytes of such commands for each
--- switch. They are two where that was said, or where the batch names a module that one doesn't join.
+-- Printed were, for each setting of a schedule and nothing else, the bytes of such commands for
+-- each switch. They are two where that was said, or where the batch names a module that one doesn't
+-- join.
 pub record HasSwitched (scheduled : ScheduleSource Text) (has_two : Bool) (texts : Files (List ℕ))
     (printed : List ℕ) : Type 0 where
   pub transfers : List Transfer
@@ -377,8 +388,8 @@ pub record HasSwitched (scheduled : ScheduleSource Text) (has_two : Bool) (texts
       (λ k. lines_on board (has_two || is_wide transfers) k (λ one. sent one k))
       (range_with_len 0 (length settings))
 
--- On each rack with the blocks of the batch modules can obey all these orders, setting by setting, in
--- whatever order words pass within one; and however they do, they leave there what a run leaves.
+-- On each rack with the blocks of the batch modules can obey all these orders, setting by setting,
+-- in whatever order words pass within one; and however they do, they leave there what a run leaves.
 abbrev pub MoveAll : RackTold → List Transfer → List (List ℕ) → Type 0
 MoveAll told batch settings =
     (opening : Store) → IsWhole opening → FitsIn opening.shape batch
@@ -472,7 +483,8 @@ IsLastLine first next all more line =
 -- The ports of these names were opened, once. A front of what passed over them is that of settings
 -- that stood, each with its line, and after these lines stands the last one. With status 0 all
 -- settings from the first one on stood, and nothing more passed. A rack that is wired as usual has
--- then two switches where there are two ports, or where the batch needs two; there is a port for each.
+-- then two switches where there are two ports, or where the batch needs two; there is a port for
+-- each.
 pub record HasDriven (w : World) (names : Names) (scheduled : ScheduleSource Text) (first : ℕ)
     (texts : Files (List ℕ)) (printed : List ℕ) : Type 0 where
   pub transfers : List Transfer
@@ -589,9 +601,8 @@ all_turns s = s.turns ++ s.held
 -- made these entries. By itself: all was told, and all was read, or `bye` was the last command.
 -- Where it couldn't be told, an end of its lines is missing, no more than a session holds; without
 -- a record, of its last line. Where calls couldn't be recorded, nothing was told of the last
--- commands that were done, whose lines are no more than that, and one more may have fetched a batch,
--- which changes nothing.
--- No command was done after `bye`.
+-- commands that were done, whose lines are no more than that, and one more may have fetched a
+-- batch, which changes nothing. No command was done after `bye`.
 abbrev pub EndsSo : (recorded : Bool) → Session → (untold : List ℕ) → List Entry → Option ServeFault
     → Type 0
 EndsSo recorded s untold unseen None =
@@ -608,8 +619,8 @@ EndsSo recorded s untold unseen (Some fault) =
     (s.held ≡ []) × (untold ≡ []) × (unseen ≡ []) × GoOn s.turns
 
 -- Calls, in one order: the words with which their rack began; those of an earlier record, with
--- which sessions began; theirs; whether these are recorded as they are made; the first of them, which
--- stand in that record, or all; and what all lead to.
+-- which sessions began; theirs; whether these are recorded as they are made; the first of them,
+-- which stand in that record, or all; and what all lead to.
 pub record Calls : Type 0 where
   pub opening : Store
   pub earlier : List Entry
@@ -647,8 +658,8 @@ pub record HaveOneOrder (calls : Calls) (sessions : List Session) : Type 0 where
       (λ s. AreReadings (greatest calls.earlier) (greatest (all_calls calls)) (all_turns s))
       sessions
 
--- The file of this name holds a front of the text: all of it, where it was put in its place, and where
--- all was written it was. Without a name none was opened.
+-- The file of this name holds a front of the text: all of it, where it was put in its place, and
+-- where all was written it was. Without a name none was opened.
 abbrev pub IsKept : (whole : Bool) → Option Text → List ℕ → Option Closed → Type 0
 IsKept whole None text file = file ≡ None
 IsKept whole (Some name) text None = ⊥
@@ -663,8 +674,8 @@ AreKept w rack names calls =
     w.kept.recorded
     × IsKept w.whole rack.image_out (image_of calls.left.store) w.kept.image
 
--- So they are, and the record of live sessions has all calls that are to stand there. Where it isn't
--- whole, no image was put in its place.
+-- So they are, and the record of live sessions has all calls that are to stand there. Where it
+-- isn't whole, no image was put in its place.
 abbrev pub AreToldKept : World → SharedRack → List Text → Calls → Type 0
 AreToldKept w rack names calls =
     AreKept w rack names calls
@@ -678,8 +689,8 @@ AreToldKept w rack names calls =
 abbrev pub told_text : Session → List ℕ
 told_text s = heading s.number ++ (s.told ++ end_text s.told s.fault)
 
--- Each script had its session. Their calls have one order. Printed was what each session was told, in
--- the order of the scripts, and nothing else. The status is 0 where no fault ended one of them.
+-- Each script had its session. Their calls have one order. Printed was what each session was told,
+-- in the order of the scripts, and nothing else. The status is 0 where no fault ended one of them.
 pub record HasServed (w : World) (rack : SharedRack) (texts : Files (List ℕ)) (printed : List ℕ)
     : Type 0 where
   pub calls : Calls
@@ -710,8 +721,8 @@ IsAsItWas run record_out names file =
 
 -- ---- live clients
 
--- Sessions begin with no calls, or with those that stood whole in the file of their record; without one
--- no call is missing in the end.
+-- Sessions begin with no calls, or with those that stood whole in the file of their record; without
+-- one no call is missing in the end.
 abbrev pub GoesOnFrom : Run → Option RecordFile → List Text → Calls → Type 0
 GoesOnFrom run record_out names calls =
     ((was : BookView) × BeginsFor run.holds record_out calls.opening names was
@@ -723,8 +734,8 @@ pub record Hosted : Type 0 where
   pub its : Session
   pub end : Ending (List ℕ)
 
--- It had a session with what comes from `NAME.in`. What it was told stands in `NAME.out`, after what
--- that held. Or these couldn't be opened, and it asked nothing.
+-- It had a session with what comes from `NAME.in`. What it was told stands in `NAME.out`, after
+-- what that held. Or these couldn't be opened, and it asked nothing.
 abbrev pub IsHosted : Calls → Clients → Text → Session → Ending (List ℕ) → Type 0
 IsHosted calls clients name s Unopened = own s.number calls.made ≡ []
 IsHosted calls clients name s (Served fault holds) =
@@ -775,7 +786,8 @@ pub record HasTalked (w : World) (rack : SharedRack) (texts : Files (List ℕ)) 
   pub prints : printed ≡ its.told ++ line_of_end its.fault
   pub kept : AreToldKept w rack [] calls
 
--- why no session begins: the rack is wrong, live ones can't go on with their record, or there are no threads
+-- why no session begins: the rack is wrong, live ones can't go on with their record, or there are
+-- no threads
 abbrev pub IsNoStart : World → SharedRack → SessionJob → Option (List ℕ) → Refusal → Type 0
 IsNoStart w rack (Serve scripts workers) image refusal = IsWrongRack rack.shape image refusal
 IsNoStart w rack (Host names workers) image refusal =
@@ -784,9 +796,9 @@ IsNoStart w rack Talk image refusal = IsWrongStart w.run.holds rack [] image ref
 
 -- ---- `replay`
 
--- The text is the record of sessions on a rack that began with these words: a head that says so, and
--- entries after it, each a call with its answer, which follows from those before it. These are as
--- many as are wanted, or all that stand there whole; and then the record ends, or was torn off.
+-- The text is the record of sessions on a rack that began with these words: a head that says so,
+-- and entries after it, each a call with its answer, which follows from those before it. These are
+-- as many as are wanted, or all that stand there whole; and then the record ends, or was torn off.
 -- Printed was the image of the words to which they lead, and nothing else.
 pub record HasReplayed (shape : Option Text) (text : List ℕ) (image : Option (List ℕ))
     (first : Option ℕ) (printed : List ℕ) : Type 0 where
@@ -919,7 +931,8 @@ IsDone w (Texts (RunJob shape batch scheduled image workers)) texts printed =
     HasRunBatch shape scheduled texts printed
 IsDone w (Texts (Replay shape recorded image first)) texts printed =
     HasReplayed shape (text_in texts.list) texts.image first printed
-IsDone w (OverPorts (Drive batch port port_b scheduled wiring first goes_on workers)) texts printed =
+IsDone w (OverPorts (Drive batch port port_b scheduled wiring first goes_on workers)) texts
+    printed =
     HasDriven w (names_in port port_b) scheduled first texts printed
 IsDone w (OverPorts C004) texts printed = HasReplied w.run printed
 IsDone w (Sessions rack (Serve scripts workers)) texts printed = HasServed w rack texts printed
@@ -963,9 +976,9 @@ KeepsJobs w = (job : Job) → AsksFor w.run job → KeepsJob w job
 
 -- ---- all promises
 
--- Where not all could be written, a front was printed of what such a run prints, and what passed over
--- ports is as there; so it is with the files of sessions, but that the record of live ones has all of
--- which somebody was told.
+-- Where not all could be written, a front was printed of what such a run prints, and what passed
+-- over ports is as there; so it is with the files of sessions, but that the record of live ones has
+-- all of which somebody was told.
 abbrev pub KeepsFronts : World → (front : List ℕ → Type 0) → Type 0
 KeepsFronts w front =
     w.run.status ≡ UNWRITTEN → (other : ℕ) × ((other ≡ DONE) ⊎ (other ≡ REFUSED))

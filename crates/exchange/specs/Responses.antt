@@ -24,7 +24,9 @@ use Rattle.command_words.specs.Jobs.{Files, file_uses, files_of}
 use Rattle.command_words.specs.declared.jobs.Job.{Job}
 use Rattle.command_words.specs.declared.jobs.Job.TheVariants.{Texts, Ports as OverPorts, Sessions}
 use Rattle.command_words.specs.declared.jobs.TextJob.{TextJob}
-use Rattle.command_words.specs.declared.jobs.TextJob.TheVariants.{Plan, Check, Draw, Prices, Switch, Orders, Direct, Apply, Run, Replay}
+use Rattle.command_words.specs.declared.jobs.TextJob.TheVariants.{Plan, Check, Draw, Prices, Switch}
+use Rattle.command_words.specs.declared.jobs.TextJob.TheVariants.{Orders, Direct, Apply, Run}
+use Rattle.command_words.specs.declared.jobs.TextJob.TheVariants.{Replay}
 use Rattle.command_words.specs.declared.jobs.PortJob.{PortJob}
 use Rattle.command_words.specs.declared.jobs.PortJob.TheVariants.{Drive, C004}
 use Rattle.command_words.specs.declared.jobs.SessionJob.{SessionJob}
@@ -34,8 +36,7 @@ use Rattle.named_files.specs.DistinctFiles.{AreSeenApart, Leading}
 use Rattle.named_files.specs.Contents.{AreContents, Holding}
 use Rattle.drive_answers.specs.Ways.{Ways}
 use Rattle.exchange.specs.Drives.{IsDriveBy, IsDriveCut, names_in}
-use Rattle.named_files.specs.declared.refusal_cause.RefusalCause.{RefusalCause}
-use Rattle.named_files.specs.Notes.{unanswered}
+use Rattle.named_files.specs.Notes.{GivesUp}
 use Rattle.recorded_sessions.specs.Answers.{IsLiveAnswer, hosting, talking}
 
 -- what is given to a job besides its files: what is left of standard input, as far as that is
@@ -188,5 +189,4 @@ abbrev pub IsResponseTo : Named → Given → Job → Response → Type 0
 IsResponseTo named given job response =
     (AreSeenApart named.leads (file_uses job) × IsJobAnswer named.holds given job response)
     ⊎ ((response.told ≡ []) × (response.ports ≡ given.ports)
-    × (response.ends ≡ []) × (response.left ≡ None)
-    × ((why : RefusalCause) × (response.end ≡ unanswered why)))
+    × (response.ends ≡ []) × (response.left ≡ None) × GivesUp response.end)

@@ -8,7 +8,10 @@ use Rattle.batch.specs.Text.{Denotes}
 use Rattle.clap.specs.Words.{Text}
 use Rattle.command_words.specs.Jobs.{Files}
 use Rattle.command_words.specs.declared.jobs.TextJob.{TextJob}
-use Rattle.command_words.specs.declared.jobs.TextJob.TheVariants.{Apply, Check, Direct, Draw, Orders, Plan, Prices, Replay, Run as RunJob, Switch as SwitchJob}
+use Rattle.command_words.specs.declared.jobs.TextJob.TheVariants.{Apply, Check, Direct, Draw}
+use Rattle.command_words.specs.declared.jobs.TextJob.TheVariants.{Orders, Plan, Prices, Replay}
+use Rattle.command_words.specs.declared.jobs.TextJob.TheVariants.{Run as RunJob}
+use Rattle.command_words.specs.declared.jobs.TextJob.TheVariants.{Switch as SwitchJob}
 use Rattle.move_directions.specs.declared.moves.Move.{Move}
 use Rattle.move_directions.specs.Text.{Denotes as DenotesMoves}
 use Rattle.plan_answers.specs.Drawings.{AreShown, AreWanted}

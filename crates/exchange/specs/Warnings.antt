@@ -16,7 +16,8 @@ abbrev pub MayHaveWarned : {Z : Type 0} → Option (String Z) → Option (List �
 MayHaveWarned {Z} warning before after = (after ≡ before) ⊎ IsWarned warning before after
 
 -- it was told, and isn't told again; or nothing was told
-abbrev pub IsWarnedOnce : {I O E : Type 0} → (E → Option (List ℕ)) → WarningObserver I O E → WarningObserver I O E
+abbrev pub IsWarnedOnce : {I O E : Type 0} → (E → Option (List ℕ)) → WarningObserver I O E
+    → WarningObserver I O E
     → Type 0
 IsWarnedOnce {I} {O} {E} contents old new =
     (new.err.ghost_name ≡ old.err.ghost_name)
@@ -26,7 +27,8 @@ IsWarnedOnce {I} {O} {E} contents old new =
 
 -- the line of a setting was told after that
 abbrev pub HasToldWarned : {I O E : Type 0} → (I → Option (List ℕ)) → (O → Option (List ℕ))
-    → (E → Option (List ℕ)) → ℕ → List ℕ → Result (Unit {0}) Halt → WarningObserver I O E → WarningObserver I O E → Type 0
+    → (E → Option (List ℕ)) → ℕ → List ℕ → Result (Unit {0}) Halt → WarningObserver I O E
+    → WarningObserver I O E → Type 0
 HasToldWarned {I} {O} {E} remaining contents beside setting numbers result old new =
     HasToldLine remaining contents setting numbers result old.lines new.lines
     × IsWarnedOnce beside old new

@@ -7,9 +7,9 @@ ghost use Rattle.exchange.specs.Outcomes.{HasNote, IsFinished};
 
 use crate::texts::texts_of;
 use command_words::Job;
-use recorded_sessions::JobResult;
-use named_files::{Contents, IoFailure, WriteFailures, JobFailure, failure_line};
+use named_files::{Contents, IoFailure, JobFailure, WriteFailures, failure_line};
 use plan_answers::{Answer, REFUSED};
+use recorded_sessions::JobResult;
 use refusal_notes::{RefusalContext, second_line};
 use refusals::Refusal;
 use std::alloc::Global;

@@ -18,9 +18,9 @@ use drive_answers::{
     DriveEnd, DriveFault, OutputMismatch, PortFailure, PortFile, PortNames, Ports, answer_drive,
 };
 use exchange_limits::WorkerCount;
-use recorded_sessions::JobResult;
 use named_files::{Contents, IoFailure, JobFailure, OutputFailure, slice_of, source_with, text_of};
 use plan_answers::ScheduleSource;
+use recorded_sessions::JobResult;
 use refusals::PortName;
 use std::alloc::{AllocError, Global};
 use std::io;
@@ -132,7 +132,7 @@ fn missed_by(fault: DriveFault, reason: Option<io::Error>) -> JobFailure
 {
     match fault {
         DriveFault::Untold => JobFailure::OutputFailure(OutputFailure::Setting(reason)),
-        DriveFault::NoMemory => JobFailure::from(AllocError),
+        DriveFault::NoMemory => JobFailure::NoMemory,
     }
 }
 

@@ -1,18 +1,22 @@
-//! What is told on standard error of files that lack something: which of clients couldn't be
-//! opened, what was cut off from a record, and how far one goes that hasn't ended.
+//! The notes of files: which of clients couldn't be opened, what was cut off from a record, and how
+//! far one goes that hasn't ended.
 
 ghost use Rattle.named_files.specs.Notes.{HasToldLines};
 
 use command_words::{SharedRack, Text};
-use recorded_sessions::CutEntry;
 use named_files::{IoFailure, failure_line, tell_line};
 use record_replay::Torn;
+use recorded_sessions::CutEntry;
 use std::alloc::{AllocError, Global};
 use std::io::Write;
 use std::sync::OnceLock;
 
 /// What was cut off from the record with which sessions went on, where something was.
-pub(crate) fn cut_note(alloc: Global, rack: &SharedRack, cut: Option<CutEntry>) -> Option<IoFailure> {
+pub(crate) fn cut_note(
+    alloc: Global,
+    rack: &SharedRack,
+    cut: Option<CutEntry>,
+) -> Option<IoFailure> {
     let (CutEntry { line, bytes }, name) = (cut?, rack.record_name()?.as_str());
     let ending = if bytes == 1 { "" } else { "s" };
     Some(IoFailure {
@@ -32,7 +36,7 @@ pub(crate) fn torn_note(alloc: Global, recorded: &Text, torn: Option<Torn>) -> O
     })
 }
 
-/// A place for what lacks of each of so many clients. Each is empty.
+/// A cell for a failure of each of so many clients. Each is empty.
 pub(crate) fn no_failures(
     alloc: Global,
     clients: usize,
@@ -44,7 +48,7 @@ pub(crate) fn no_failures(
     Ok(lacks)
 }
 
-/// Tells what lacks, where something does and there is memory for the line, unless none is wanted.
+/// Reports a failure, where there is one and memory for its line, unless none is wanted.
 pub(crate) fn report_failure<E: Write>(
     alloc: Global,
     lack: Option<&IoFailure>,
@@ -63,7 +67,7 @@ pub(crate) fn report_failure<E: Write>(
     }
 }
 
-/// Tells what lacks of each client.
+/// Reports the failures of all clients.
 pub(crate) fn report_failures<E: Write>(
     alloc: Global,
     lacks: &[OnceLock<IoFailure>],

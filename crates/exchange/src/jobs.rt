@@ -1,18 +1,22 @@
 //! The answer to each job.
 
-ghost use Rattle.std.specs.Prelude.{◌≡◌, [], List, ℕ, IfErr, IfOk, IsOk, OnErr, OnOk, Option, None, length};
+ghost use Rattle.std.specs.Prelude.{◌≡◌, [], List, ℕ, IfErr, IfOk, IsOk, OnErr, OnOk, Option, None};
+ghost use Rattle.std.specs.Prelude.{length};
 ghost use Rattle.std.specs.Io.KnownBytes.{Appends};
 ghost use Rattle.batch_book.specs.History.{BookView};
 ghost use Rattle.plan_answers.specs.Lent.{bytes_of};
 ghost use Rattle.command_words.specs.Jobs.{IsWithinLimits, files_of};
-ghost use Rattle.command_words.specs.declared.jobs.Job.TheVariants.{Ports as OverPorts, Texts as OfTexts};
+ghost use Rattle.command_words.specs.declared.jobs.Job.TheVariants.{Ports as OverPorts};
+ghost use Rattle.command_words.specs.declared.jobs.Job.TheVariants.{Texts as OfTexts};
 ghost use Rattle.named_files.specs.Contents.{AreContents, contents_in};
 ghost use Rattle.named_files.specs.Clients.{clients_by, ends_of};
 ghost use Rattle.exchange.specs.Ends.{HasEnded, behind, streams_of};
-ghost use Rattle.exchange.specs.Responses.{IsAnswerTo, IsC004By, IsC004Cut, IsPortAnswer, IsPortCut, IsTextAnswer, IsToldCut, given_by, named_by};
+ghost use Rattle.exchange.specs.Responses.{IsAnswerTo, IsC004By, IsC004Cut, IsPortAnswer};
+ghost use Rattle.exchange.specs.Responses.{IsPortCut, IsTextAnswer, IsToldCut, given_by, named_by};
 ghost use Rattle.exchange.specs.Notes.{IsBeside, IsWarnedOf};
 ghost use Rattle.exchange.specs.Keeping.{AreKept, AreKeptBut};
-ghost use Rattle.named_files.specs.Outputs.{AreNamed, AreOpened, begins_with, is_live, output_of, record_of};
+ghost use Rattle.named_files.specs.Outputs.{AreNamed, AreOpened, begins_with, is_live, output_of};
+ghost use Rattle.named_files.specs.Outputs.{record_of};
 ghost use Rattle.exchange.specs.Outcomes.{HasTold, IsNothing, IsUnanswered, response_of};
 ghost use Rattle.named_files.specs.Notes.{IsNoAnswer, IsRefused};
 
@@ -27,15 +31,15 @@ use client_session::NoListener;
 use command_words::{Job, PortJob, Request, SessionJob, Text, TextJob};
 use drive_answers::{PortNames, Ports};
 use exchange_limits::WorkerCount;
-use recorded_sessions::{JobResult, SessionsResult, host, serve, talk};
 use link_devices::{EndFault, SwitchEnd, answer_commands};
 use named_files::{
-    Contents, DistinctFiles, JobFailure, Outputs, Receipts, ProgramRuntime, System, OutputFailure,
+    Contents, DistinctFiles, JobFailure, OutputFailure, Outputs, ProgramRuntime, Receipts, System,
     open_distinct, read_contents, reason_line, slice_of, source_with, tell_note, text_of,
 };
 use plan_answers::{Answer, answer_check, answer_direct, answer_draw, answer_plan, answer_prices};
 use rack_answers::{answer_apply, answer_orders, answer_run, answer_switch};
 use record_replay::answer_replay;
+use recorded_sessions::{JobResult, SessionsResult, host, serve, talk};
 use std::alloc::{AllocError, Global};
 use std::io;
 use std::io::{Read, Write};
@@ -53,9 +57,9 @@ pub(crate) struct JobEnd<C> {
 /// enquiries there, and tells on `err` what it drops. `plan`, `switch` and `drive` tell on `err`
 /// where two transfers write one block, `draw` where its picture is wider than common tools draw,
 /// `host` which files of clients couldn't be opened, and `replay` how far a record goes that hasn't
-/// ended. It is looked first where names lead. Then the files for the record of sessions and for the
-/// image that they leave are opened, before any other is read, and all that are read are read before
-/// anything is answered.
+/// ended. It is looked first where names lead. Then the files for the record of sessions and for
+/// the image that they leave are opened, before any other is read, and all that are read are read
+/// before anything is answered.
 pub(crate) fn run_job<R: ProgramRuntime, S: System, P: Ports, I: Read, O: Write, E: Write>(
     rt: &R,
     system: &S,
@@ -280,7 +284,7 @@ fn run_port_job<R: AllocGlobal + Threads + Sync, P: Ports, I: Read, O: Write, E:
             port,
             port_b,
             source,
-            first,
+            first_setting: first,
             goes_on,
             workers,
             ..
@@ -394,10 +398,14 @@ fn answer_texts<R: AllocGlobal + Threads + Sync>(
             let answer = answer_run(rt, alloc, shape, list, source, image, *workers)?;
             Ok(JobResult::alone(answer))
         }
-        TextJob::Replay { shape, first, .. } => {
+        TextJob::Replay {
+            shape,
+            first_entries,
+            ..
+        } => {
             let shape = bytes_in(shape);
             let workers = WorkerCount::ONE;
-            let replayed = answer_replay(rt, alloc, shape, list, image, *first, workers)?;
+            let replayed = answer_replay(rt, alloc, shape, list, image, *first_entries, workers)?;
             Ok(JobResult::replayed(replayed))
         }
     }

@@ -11,14 +11,15 @@
 //! is told before it, and fronts of what sessions leave went to the files for that (`IsCutFor`).
 //! Else what sessions leave went to the files that `--record` and `--image-out` name, and nothing
 //! else did (`AreKept` of `specs/Keeping.antt`). The record of live sessions goes on from what its
-//! file held (`BeginsAs` of `recorded_sessions`), and in the end has each entry of which somebody was
-//! told. What a live client was told went to the file of its name (`clients_by` of `named_files`).
-//! No port was opened but by `drive`, once, by the names of its words (`Ways` of `drive_answers`).
-//! Which bytes a file holds, and where names lead, the [`System`](named_files::System) tells: of
-//! the real one contracts know none but the bytes of standard input. Beside what it prints for a
-//! job, standard error gets at most a front of one text of a refusal, and what is told beside
-//! `talk`, `c004`, `host` and `replay`, and beside `plan`, `switch` and `drive` where transfers
-//! overlap, and `draw` where a picture is wide (`IsNoted` of `specs/Notes.antt`).
+//! file held (`BeginsAs` of `recorded_sessions`), and in the end has each entry of which somebody
+//! was told. What a live client was told went to the file of its name (`clients_by` of
+//! `named_files`). No port was opened but by `drive`, once, by the names of its words (`Ways` of
+//! `drive_answers`). Which bytes a file holds, and where names lead, the
+//! [`System`](named_files::System) tells: of the real one contracts know none but the bytes of
+//! standard input. Beside what it prints for a job, standard error gets at most a front of one text
+//! of a refusal, and what is told beside `talk`, `c004`, `host` and `replay`, and beside `plan`,
+//! `switch` and `drive` where transfers overlap, and `draw` where a picture is wide (`IsNoted` of
+//! `specs/Notes.antt`).
 #![tactic(auto)]
 
 mod answered;

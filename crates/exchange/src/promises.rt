@@ -12,7 +12,8 @@ ghost use Rattle.std.specs.Prelude.{◌≡◌, [], IfOk, OnErr};
 ghost use Rattle.std.specs.Io.KnownBytes.{Appends};
 ghost use Rattle.std.specs.Process.{exit_status};
 ghost use Rattle.command_words.specs.Jobs.{texts_of};
-ghost use Rattle.exchange.specs.Promises.{KeepsPromises, KeepsUnread, clients_of, saved_by, run_of, world_of};
+ghost use Rattle.exchange.specs.Promises.{KeepsPromises, KeepsUnread, clients_of, saved_by, run_of};
+ghost use Rattle.exchange.specs.Promises.{world_of};
 ghost use Rattle.named_files.specs.Notes.{IsToldInPart};
 
 use crate::devices::Devices;

@@ -1,14 +1,18 @@
 //! From the arguments of the command line to what is printed, and the status that the program ends
 //! with.
 
-ghost use Rattle.std.specs.Prelude.{◌≡◌, [], ◌⊎◌, IfErr, IfOk, OnErr, option_map, string_bytes};
+ghost use Rattle.std.specs.Prelude.{◌≡◌, [], ◌⊎◌, IfErr, IfOk, IsSomeAnd, MatchOption, OnErr};
+ghost use Rattle.std.specs.Prelude.{option_map, string_bytes};
 ghost use Rattle.std.specs.Process.{exit_status};
 ghost use Rattle.command_words.specs.Jobs.{texts_of};
 ghost use Rattle.exchange.specs.Responses.{given_by, named_by};
-ghost use Rattle.named_files.specs.Notes.{unanswered, IsToldInPart, IsToldUnless};
+ghost use Rattle.named_files.specs.Notes.{note_of, refusal_of, unanswered, IsToldInPart};
+ghost use Rattle.named_files.specs.Notes.{IsToldUnless};
 ghost use Rattle.named_files.specs.Clients.{clients_by, ends_of};
 ghost use Rattle.named_files.specs.Outputs.{no_write_failures, IsUnwrittenTold};
-ghost use Rattle.exchange.specs.Ends.{IsLeft, IsNoneLeft, IsPrinted, leaving, streams_of, IsCutFor, IsEndForArguments, IsEndWithoutArguments, IsFaultCut, IsFaultEnd, IsUnwrittenOf};
+ghost use Rattle.exchange.specs.Ends.{IsLeft, IsNoneLeft, IsPrinted, leaving, streams_of, IsCutFor};
+ghost use Rattle.exchange.specs.Ends.{IsEndForArguments, IsEndWithoutArguments, IsFaultCut};
+ghost use Rattle.exchange.specs.Ends.{IsFaultEnd, IsUnwrittenOf};
 
 use crate::answered::NotedAnswer;
 use crate::devices::Devices;
@@ -17,7 +21,7 @@ use crate::limits::{MISUSED, UNWRITTEN};
 use byte_streams::write_bytes;
 use command_words::{ArgumentsFault, read_arguments};
 use drive_answers::Ports;
-use named_files::{JobFailure, Receipts, ProgramRuntime, System, RefusalCause, OutputFailure, tell_note};
+use named_files::{JobFailure, OutputFailure, ProgramRuntime, Receipts, System, tell_note};
 use plan_answers::{Answer, DONE, REFUSED};
 use refusals::Refusal;
 use std::alloc::{AllocError, Global};
@@ -119,7 +123,7 @@ fn print_without_arguments<O: Write, E: Write>(
     ensures { IfOk result (IsEndWithoutArguments (O.contents out.old) (O.contents out.new)) }
 {
     if error.kind() == ErrorKind::OutOfMemory {
-        return refuse(RefusalCause::NoMemory, out);
+        return refuse(Refusal::NoMemory, out);
     }
     err.write_all(b"error: a word isn't UTF-8 text\n")?;
     Ok(MISUSED)
@@ -161,10 +165,7 @@ fn print_response<R: ProgramRuntime, S: System, P: Ports, I: Read, O: Write, E: 
             let is_quiet = request.is_quiet;
             match end {
                 Ok(done) => (print_noted(done, is_quiet, out, err), receipts),
-                Err(JobFailure::Refused { why, note }) => {
-                    (refuse_noted(why, &note, is_quiet, out, err), receipts)
-                }
-                Err(JobFailure::OutputFailure(unwritten)) => (Err(unwritten), receipts),
+                Err(missed) => (print_failure(missed, is_quiet, out, err), receipts),
             }
         }
         Err(fault) => (
@@ -187,7 +188,7 @@ fn print_fault<O: Write, E: Write>(
     ensures cut { OnErr result (IsFaultCut fault (O.contents out.old) (O.contents out.new)) }
 {
     match fault {
-        ArgumentsFault::NoMemory => refuse(RefusalCause::NoMemory, out),
+        ArgumentsFault::NoMemory => refuse(Refusal::NoMemory, out),
         ArgumentsFault::Clap(error) if error.use_stderr() => {
             write!(err, "{error}")?;
             Ok(MISUSED)
@@ -253,27 +254,33 @@ fn print_noted<O: Write, E: Write>(
 
 /// Prints why there is no answer, then tells what there is to tell beside it, and gives the status
 /// of a refusal. Where standard output is a file of the job, nothing is printed there.
-fn refuse_noted<O: Write, E: Write>(
-    why: RefusalCause,
-    note: &Option<String>,
+fn print_failure<O: Write, E: Write>(
+    missed: JobFailure,
     is_quiet: bool,
     out: &mut O,
     err: &mut E,
 ) -> Result<u8, OutputFailure>
-    ensures printed { IfOk result
-        (IsPrinted (O.contents out.old) (O.contents out.new) (unanswered why)) }
-    ensures cut { OnErr result
-        (IsToldInPart (O.contents out.old) (O.contents out.new) (unanswered why).text) }
-    ensures told { IsToldUnless is_quiet (option_map (λ line. string_bytes line) note.now)
-        (E.contents err.old) (E.contents err.new) }
+    ensures printed { IfOk result (λ status. IsSomeAnd (refusal_of missed)
+        (λ why. IsPrinted (O.contents out.old) (O.contents out.new) (unanswered why) status)) }
+    ensures cut { OnErr result (MatchOption (refusal_of missed)
+        (O.contents out.new ≡ O.contents out.old)
+        (λ why. IsToldInPart (O.contents out.old) (O.contents out.new) (unanswered why).text)) }
+    ensures told { IsToldUnless is_quiet (note_of missed) (E.contents err.old)
+        (E.contents err.new) }
 {
-    if let RefusalCause::Output = why {
-        tell_note(note, is_quiet, err);
-        return Err(OutputFailure::Nowhere);
+    match missed {
+        JobFailure::File { note } => {
+            let status = refuse(Refusal::File, out)?;
+            tell_note(&note, is_quiet, err);
+            Ok(status)
+        }
+        JobFailure::Output { note } => {
+            tell_note(&note, is_quiet, err);
+            Err(OutputFailure::Nowhere)
+        }
+        JobFailure::NoMemory => refuse(Refusal::NoMemory, out),
+        JobFailure::OutputFailure(unwritten) => Err(unwritten),
     }
-    let status = refuse(why, out)?;
-    tell_note(note, is_quiet, err);
-    Ok(status)
 }
 
 /// Prints an answer, and gives its status.
@@ -288,12 +295,12 @@ fn print<O: Write>(answer: &Answer, out: &mut O) -> io::Result<u8>
 }
 
 /// Prints why there is no answer, and gives the status of a refusal.
-fn refuse<O: Write>(why: RefusalCause, out: &mut O) -> Result<u8, OutputFailure>
+fn refuse<O: Write>(why: Refusal, out: &mut O) -> Result<u8, OutputFailure>
     ensures printed { IfOk result
         (IsPrinted (O.contents out.old) (O.contents out.new) (unanswered why)) }
     ensures cut { OnErr result
         (IsToldInPart (O.contents out.old) (O.contents out.new) (unanswered why).text) }
 {
-    write_bytes(out, Refusal::from(why).line().as_bytes())?;
+    write_bytes(out, why.line().as_bytes())?;
     Ok(REFUSED)
 }

@@ -2,9 +2,9 @@
 
 use batch::position_of;
 use command_words::{Job, Text, TextJob};
-use recorded_sessions::JobResult;
 use named_files::{Contents, slice_of};
 use record_replay::RecordError;
+use recorded_sessions::JobResult;
 use refusal_notes::{Listing, NamedText, OpeningRack, RefusalContext};
 use refusals::Refusal;
 

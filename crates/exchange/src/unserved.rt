@@ -1,12 +1,13 @@
 //! What comes of a job by whose sessions nothing is written.
 
 ghost use Rattle.std.specs.Prelude.{◌≡◌, None};
-ghost use Rattle.named_files.specs.Outputs.{AreOpened, begins_with, is_live, no_write_failures, output_of, record_of};
+ghost use Rattle.named_files.specs.Outputs.{AreOpened, begins_with, is_live, no_write_failures};
+ghost use Rattle.named_files.specs.Outputs.{output_of, record_of};
 ghost use Rattle.exchange.specs.Keeping.{AreKept};
 
 use command_words::Job;
+use named_files::{JobFailure, Outputs, Receipts, System, WriteFailures, close_file};
 use recorded_sessions::{JobResult, SessionsResult};
-use named_files::{WriteFailures, JobFailure, Outputs, Receipts, System, close_file};
 
 /// Closes the files that are open, where nothing went to them.
 pub(crate) fn close_outputs<S: System>(

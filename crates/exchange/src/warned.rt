@@ -7,8 +7,9 @@ use named_files::tell_line;
 use std::io::{Read, Write};
 use switch_driver::{DriveObserver, Halt, LineObserver};
 
-/// A stage that tells lines of settings, and before the first of them another line on standard
-/// error, where there is one. So that is told once, and nowhere where no setting stands.
+/// An observer that prints the lines of settings, and before the first of them a warning on
+/// standard error, where there is one. So the warning is printed once, and nowhere where no setting
+/// stands.
 #[derive(Drop)]
 pub(crate) struct WarningObserver<'a, 'e, I, O, E> {
     lines: LineObserver<'a, I, O>,

@@ -4,13 +4,16 @@ use Rattle.link_devices.specs.BootTaking.{EndTakesByte}
 use Rattle.link_devices.specs.declared.boot_fault.BootFault.{BootFault}
 use Rattle.link_devices.specs.declared.boot_fault.BootFault.TheVariants.{NoEnd, Refused}
 use Rattle.link_devices.specs.declared.boot_state.BootState.{BootState}
-use Rattle.exchange_c.specs.declared.status.TheConstants.{REPLY, BOOTSTRAP, MISALIGNED, OUTSIDE, FAILED, LOOSE, NO_PORT, NO_STATE}
-use Rattle.peek_poke.specs.declared.fault.AnswerFault.TheVariants.{Boot, Misaligned, Outside, Failed}
+use Rattle.exchange_c.specs.declared.status.TheConstants.{REPLY, BOOTSTRAP, MISALIGNED, OUTSIDE}
+use Rattle.exchange_c.specs.declared.status.TheConstants.{FAILED, LOOSE, NO_PORT, NO_STATE}
+use Rattle.peek_poke.specs.declared.fault.AnswerFault.TheVariants.{Boot, Misaligned, Outside}
+use Rattle.peek_poke.specs.declared.fault.AnswerFault.TheVariants.{Failed}
 use Rattle.plan_answers.specs.declared.limits.TheConstants.{DONE, REFUSED}
 use Rattle.link_devices.specs.Asking.{AnswersSource, AnswersJoined}
 use Rattle.link_devices.specs.SwitchTaking.{SwitchTakesByte}
 use Rattle.link_devices.specs.declared.switch_fault.AskFault.{AskFault}
-use Rattle.link_devices.specs.declared.switch_fault.AskFault.TheVariants.{NoPort, NoSwitch as NoSwitchAsked}
+use Rattle.link_devices.specs.declared.switch_fault.AskFault.TheVariants.{NoPort}
+use Rattle.link_devices.specs.declared.switch_fault.AskFault.TheVariants.{NoSwitch as NoSwitchAsked}
 use Rattle.link_devices.specs.declared.switch_fault.TakeFault.{TakeFault}
 use Rattle.link_devices.specs.declared.switch_fault.TakeFault.TheVariants.{NoSwitch, Byte}
 use Rattle.link_devices.specs.declared.switch_state.SwitchState.{SwitchState}

@@ -3,7 +3,9 @@ use Rattle.std.specs.Prelude.{◌≡◌, ◌⊎◌, ◌==◌, ℕ, List, [], Opt
 use Rattle.batch.specs.ShapeView.{widest}
 use Rattle.exchange_c.specs.Switching.{IsOrderedBy, IsSwitchedBy, IsSwitchedOn}
 use Rattle.exchange_c.specs.declared.why.LibraryCall.{LibraryCall}
-use Rattle.exchange_c.specs.declared.why.LibraryCall.TheVariants.{Plan, Check, Switch, Apply, Draw, Changes, Direct, SwitchWired, Orders}
+use Rattle.exchange_c.specs.declared.why.LibraryCall.TheVariants.{Plan, Check, Switch, Apply, Draw}
+use Rattle.exchange_c.specs.declared.why.LibraryCall.TheVariants.{Changes, Direct, SwitchWired}
+use Rattle.exchange_c.specs.declared.why.LibraryCall.TheVariants.{Orders}
 use Rattle.plan_answers.specs.Answers.{IsPlanned, IsChecked}
 use Rattle.plan_answers.specs.Counting.{IsCounted}
 use Rattle.plan_answers.specs.Directing.{IsDirected}

@@ -33,7 +33,8 @@ mod why;
 pub use boot::{exchange_boot_reset, exchange_boot_take};
 use exchange_limits::WorkerCount;
 use plan_answers::{
-    Answer, Planning, ScheduleSource, answer_changes, answer_check, answer_direct, answer_draw, answer_plan,
+    Answer, Planning, ScheduleSource, answer_changes, answer_check, answer_direct, answer_draw,
+    answer_plan,
 };
 use rack_answers::{answer_apply, answer_orders, answer_switch};
 use schedule_certificate::NoThreads;

@@ -108,12 +108,24 @@ impl LibraryCall {
                     workers,
                 )
             }
-            LibraryCall::Orders => answer_orders(rt, alloc, first, source_of(second), None, workers),
+            LibraryCall::Orders => answer_orders(
+                rt,
+                alloc,
+                first,
+                source_of(second),
+                None,
+                workers,
+            ),
         }
     }
 
     /// What its refusals are told of. The shape is that of a call that has one.
-    fn texts<'a>(self, given: CallTexts<'a>, names: TextNames<'a>, shape: &'a str) -> RefusalContext<'a> {
+    fn texts<'a>(
+        self,
+        given: CallTexts<'a>,
+        names: TextNames<'a>,
+        shape: &'a str,
+    ) -> RefusalContext<'a> {
         let list = NamedText {
             name: names.at(0, "batch"),
             text: given.first,
@@ -175,7 +187,12 @@ fn is_cut(refusal: Refusal, validity: Validity) -> bool {
 
 /// The second line of the refusal that a call gives of its texts, or nothing where it refuses none.
 /// Want of memory for all of it is the error.
-fn why(alloc: Global, asked: LibraryCall, given: CallTexts<'_>, names: &[u8]) -> Result<Answer, AllocError>
+fn why(
+    alloc: Global,
+    asked: LibraryCall,
+    given: CallTexts<'_>,
+    names: &[u8],
+) -> Result<Answer, AllocError>
     ensures { IfOk result (IsWhy asked
         given.entry.first.now given.entry.second.now given.entry.third.now) }
 {

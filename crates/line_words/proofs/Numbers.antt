@@ -1,5 +1,6 @@
 -- Numbers and words in hexadecimal digits.
-use Rattle.std.proofs.Common.{◌≡◌, ℕ, zero, suc, ◌+◌, ◌*◌, ◌/◌, ◌%◌, ◌<◌, ◌≤◌, ◌^◌, List, [], ◌∷◌, ◌++◌, length, take, drop, set, map, get_or, codes, refl, sym, ap, ◌∙◌, subst, arith, inl, inr, Option, Some, None, IfNone, append_assoc}
+use Rattle.std.proofs.Common.{◌≡◌, ℕ, zero, suc, ◌+◌, ◌*◌, ◌/◌, ◌%◌, ◌<◌, ◌≤◌, ◌^◌, List, [], ◌∷◌, ◌++◌, length, take, drop, set, map, get_or, codes, refl, sym, ap, ◌∙◌, subst, arith, inl, inr}
+use Rattle.std.proofs.Common.{Option, Some, None, IfNone, append_assoc}
 use Rattle.std.specs.Fmt.{decimal}
 use Rattle.std.specs.Int.Digits.{digits_of}
 use Rattle.std.proofs.Math.Nat.{pow-suc}
@@ -22,7 +23,8 @@ decimal_step n some fits =
     let glyph = λ (d : ℕ). 48 + d in
     let less : n / 10 < 2 ^ 64 = omega arith in
     let more : 0 < n / 10 = omega arith in
-    decimal-digits_of n (omega arith) fits ∙ ap (map glyph) (digits_of_step 10 n (omega arith) (omega arith)) ∙ map-append glyph (digits_of 10 (n / 10)) (n % 10 ∷ [])
+    decimal-digits_of n (omega arith) fits ∙ ap (map glyph) (digits_of_step 10 n (omega arith) (omega arith)) ∙ map-append glyph (digits_of 10 (n / 10))
+    (n % 10 ∷ [])
     ∙ ap (λ l. l ++ (48 + n % 10) ∷ []) (sym (decimal-digits_of (n / 10) more less))
 
 pub length-decimal_step : (n : ℕ) → 10 ≤ n → n < 2 ^ 64 → length (decimal n) ≡ length (decimal (n / 10)) + 1
@@ -45,9 +47,11 @@ one_more : (n : ℕ) → n + 1 ≡ suc n
 one_more n = omega arith
 
 -- a digit more stands in front of those that were written
-pub digit_in_front : (n w : ℕ) (ds : List ℕ) → n < length ds → hex_digits n (w / 16) ++ drop n (set ds n (hex_digit (w % 16))) ≡ hex_digits (n + 1) w ++ drop (n + 1) ds
+pub digit_in_front : (n w : ℕ) (ds : List ℕ) → n < length ds → hex_digits n (w / 16) ++ drop n (set ds n (hex_digit (w % 16))) ≡ hex_digits (n + 1) w
+    ++ drop (n + 1) ds
 digit_in_front n w ds less =
-    ap (λ l. hex_digits n (w / 16) ++ l) (drop-set ds n (hex_digit (w % 16)) less) ∙ sym (append_assoc (hex_digits n (w / 16)) (hex_digit (w % 16) ∷ []) (drop (n + 1) ds))
+    ap (λ l. hex_digits n (w / 16) ++ l) (drop-set ds n (hex_digit (w % 16)) less)
+    ∙ sym (append_assoc (hex_digits n (w / 16)) (hex_digit (w % 16) ∷ []) (drop (n + 1) ds))
     ∙ ap (λ k. hex_digits k w ++ drop (n + 1) ds) (sym (one_more n))
 
 digit_low : (d : ℕ) → d < 10 → hex_digit d ≡ 48 + d
@@ -70,7 +74,8 @@ pub hex_more : (n v d : ℕ) → d < 16 → hex_digits (n + 1) (v * 16 + d) ≡ 
 hex_more n v d less =
     let q : (v * 16 + d) / 16 ≡ v = omega arith in
     let r : (v * 16 + d) % 16 ≡ d = omega arith in
-    ap (λ k. hex_digits k (v * 16 + d)) (one_more n) ∙ ap (λ l. l ++ hex_digit ((v * 16 + d) % 16) ∷ []) (ap (hex_digits n) q) ∙ ap (λ k. hex_digits n v ++ hex_digit k ∷ []) r
+    ap (λ k. hex_digits k (v * 16 + d)) (one_more n) ∙ ap (λ l. l ++ hex_digit ((v * 16 + d) % 16) ∷ []) (ap (hex_digits n) q)
+    ∙ ap (λ k. hex_digits n v ++ hex_digit k ∷ []) r
 
 -- what seven digits can say
 pub seven : (i w : ℕ) → i < 8 → w < 16 ^ i → w < 268435456
@@ -124,13 +129,15 @@ pub after_word : (line word rest more : List ℕ) → line ≡ word ++ rest → 
 after_word line word rest more e f = append_cancel_left word rest more (sym e ∙ f)
 
 -- what stands after a number and a space
-pub after_number : (bytes rest more : List ℕ) (n m : ℕ) → IsNumber n × (bytes ≡ number n space ++ rest) → IsNumber m → bytes ≡ number m space ++ more → rest ≡ more
+pub after_number : (bytes rest more : List ℕ) (n m : ℕ) → IsNumber n × (bytes ≡ number n space ++ rest) → IsNumber m → bytes ≡ number m space ++ more → rest
+    ≡ more
 after_number bytes rest more n m e fits f = (one_number n m space rest more e.0 fits space_ends (sym e.1 ∙ f)).1
 
 -- what stands after a word in digits and a space
 pub after_hex8 : (bytes rest more : List ℕ) (v w : ℕ) → bytes ≡ hex8 v ++ space ∷ rest → bytes ≡ hex8 w ++ space ∷ more → rest ≡ more
 after_hex8 bytes rest more v w e f =
-    let cut : (x : ℕ) (l : List ℕ) → drop 9 (hex8 x ++ space ∷ l) ≡ l = λ x l. ap (λ n. drop (n + 1) (hex8 x ++ space ∷ l)) (sym (length-hex8 x)) ∙ drop-append-add (hex8 x) (space ∷ l) 1 in
+    let cut : (x : ℕ) (l : List ℕ) → drop 9 (hex8 x ++ space ∷ l) ≡ l = λ x l. ap (λ n. drop (n + 1) (hex8 x ++ space ∷ l)) (sym (length-hex8 x))
+    ∙ drop-append-add (hex8 x) (space ∷ l) 1 in
     sym (cut v rest) ∙ ap (drop 9) (sym e ∙ f) ∙ cut w more
 
 -- the digits that stand in front
@@ -138,6 +145,7 @@ pub hex8_in_front : (v w : ℕ) (rest more : List ℕ) → hex8 v ++ rest ≡ he
 hex8_in_front v w rest more e = sym (take_at (hex8 v) rest 8 (length-hex8 v)) ∙ ap (take 8) e ∙ take_at (hex8 w) more 8 (length-hex8 w)
 
 -- what stands after the module of a line that pokes
-pub after_poke : (line rest after : List ℕ) (m n a w : ℕ) → line ≡ codes "poke " ++ rest → IsNumber m × (rest ≡ number m space ++ after) → IsNumber n → line ≡ codes "poke " ++ (number n space ++ (hex8 a ++ space ∷ hex8 w)) → after ≡ hex8 a ++ space ∷ hex8 w
+pub after_poke : (line rest after : List ℕ) (m n a w : ℕ) → line ≡ codes "poke " ++ rest → IsNumber m × (rest ≡ number m space ++ after) → IsNumber n → line
+    ≡ codes "poke " ++ (number n space ++ (hex8 a ++ space ∷ hex8 w)) → after ≡ hex8 a ++ space ∷ hex8 w
 after_poke line rest after m n a w e read fits f =
     after_number rest after (hex8 a ++ space ∷ hex8 w) m n read fits (after_word line (codes "poke ") rest (number n space ++ (hex8 a ++ space ∷ hex8 w)) e f)

@@ -4,11 +4,11 @@
 //! [`Line`]. Neither takes memory, so that a reply whose call was made is never lost for want of
 //! it.
 //!
-//! [`Line::put`], [`Line::put_number`], [`Line::put_numbered`] and [`Line::put_hex8`] put just these
-//! bytes or digits after what stands there. [`word_from_hex8`] reads eight hexadecimal digits in lower case as the word
-//! that they spell, and nothing else (`hex8` of `specs/HexWords.antt`). [`number_and_rest`],
-//! [`hex8_and_rest`] and [`rest_after`] read what a line begins with, exactly where it begins so, and
-//! [`number_after`] a whole line of a word and its number.
+//! [`Line::put`], [`Line::put_number`], [`Line::put_numbered`] and [`Line::put_hex8`] put just
+//! these bytes or digits after what stands there. [`word_from_hex8`] reads eight hexadecimal digits
+//! in lower case as the word that they spell, and nothing else (`hex8` of `specs/HexWords.antt`).
+//! [`number_and_rest`], [`hex8_and_rest`] and [`rest_after`] read what a line begins with, exactly
+//! where it begins so, and [`number_after`] a whole line of a word and its number.
 #![tactic(auto)]
 
 mod hex;

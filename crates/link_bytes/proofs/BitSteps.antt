@@ -1,5 +1,6 @@
 -- What one bit makes of what has come of a packet.
-use Rattle.std.proofs.Common.{◌≡◌, ◌<◌, ◌≤◌, ◌+◌, ◌^◌, ◌⊎◌, inl, inr, ℕ, suc, Bool, true, false, List, [], ◌∷◌, ◌++◌, refl, sym, ap, ◌∙◌, subst, arith, Option, Some, None, Result, Ok, Err, append_assoc, append-nil, length-append}
+use Rattle.std.proofs.Common.{◌≡◌, ◌<◌, ◌≤◌, ◌+◌, ◌^◌, ◌⊎◌, inl, inr, ℕ, suc, Bool, true, false, List, [], ◌∷◌, ◌++◌, refl, sym, ap, ◌∙◌, subst, arith, Option, Some, None, Result, Ok, Err}
+use Rattle.std.proofs.Common.{append_assoc, append-nil, length-append}
 use Rattle.std.proofs.lemmas.Bool.{cases_lt}
 use Rattle.std.proofs.lemmas.Nat.{pow_below}
 use Rattle.std.proofs.lemmas.List.{take-append-le}
@@ -12,7 +13,7 @@ use Rattle.link_bytes.specs.declared.fault.LinkFault.TheVariants.{Framing}
 use Rattle.link_bytes.specs.declared.reader.PacketState.{PacketState}
 use Rattle.link_bytes.specs.declared.reader.PacketState.TheVariants.{Idle, Started, Data, Failed}
 use Rattle.link_bytes.specs.Line.{low_bits, data_bits, idle, sent, IsPacketFront}
-use Rattle.link_bytes.specs.Reading.{Reading, HasRead, IsPartial, IsFramingFault}
+use Rattle.link_bytes.specs.Reading.{PacketView, HasRead, IsPartial, IsFramingFault}
 use Rattle.link_bytes.specs.Stages.{IsStage, Reads, reading_of}
 use Rattle.link_bytes.proofs.DataBits.{data_bits-is, length-data_bits, take-data_bits, low_bits_set, low_bits_clear, bit_or_range}
 use Rattle.link_bytes.proofs.Lines.{Answers, HasRead-more, goes_on, ends_sign}
@@ -51,7 +52,8 @@ pub acknowledge : Reads (reading_of Started) false (Some Ack) (reading_of Idle)
 acknowledge = ends_sign (sent Ack) (true ∷ false ∷ []) refl (tt, tt)
 
 -- a data bit goes on with its packet
-pub data_goes_on : (count value value' : ℕ) (bit : Bool) → count < DATA_BITS → value' < 2 ^ (count + 1) → low_bits value' (count + 1) ≡ low_bits value count ++ bit ∷ [] → Reads (reading_of (Data count value)) bit None (reading_of (Data (count + 1) value'))
+pub data_goes_on : (count value value' : ℕ) (bit : Bool) → count < DATA_BITS → value' < 2 ^ (count + 1) → low_bits value' (count + 1) ≡ low_bits value count
+    ++ bit ∷ [] → Reads (reading_of (Data count value)) bit None (reading_of (Data (count + 1) value'))
 data_goes_on count value value' bit h l e = rw (← e) (goes_on _ (rest_data value' (count + 1) (omega arith) l))
 
 -- the value of all data bits is the packet's byte
@@ -74,22 +76,36 @@ module _ (count value : ℕ) (all : DATA_BITS ≤ count) (is : IsStage (Data cou
   data_breaks = (value, whole_byte, whole_bits true)
 
 -- each bit has an answer
-some_answer : (stage : PacketState) (bit : Bool) → IsStage stage → (result : Result (Option Packet) LinkFault) × (next : PacketState) × IsStage next × Answers (reading_of stage) bit result (reading_of next)
+some_answer : (stage : PacketState) (bit : Bool) → IsStage stage → (result : Result (Option Packet) LinkFault) × (next : PacketState) × IsStage next
+    × Answers (reading_of stage) bit result (reading_of next)
 some_answer Idle false h = (Ok None, Idle, tt, idle_bit)
 some_answer Idle true h = (Ok None, Started, tt, start_bit)
 some_answer Started false h = (Ok (Some Ack), Idle, tt, acknowledge)
 some_answer Started true h = (Ok None, Data 0 0, (omega arith, omega arith), one_bit)
 some_answer (Data count value) bit h = data_answer bit (cases_lt count DATA_BITS) where
-  data_answer : (bit : Bool) → (count < DATA_BITS) ⊎ (DATA_BITS ≤ count) → (result : Result (Option Packet) LinkFault) × (next : PacketState) × IsStage next × Answers (reading_of (Data count value)) bit result (reading_of next)
-  data_answer true (inl l) = let r = bit_or_range value count l h.1 in (Ok None, Data (count + 1) _, (omega arith, r), data_goes_on count value _ true l r (low_bits_set value count l))
+  data_answer : (bit : Bool) → (count < DATA_BITS) ⊎ (DATA_BITS ≤ count) → (result : Result (Option Packet) LinkFault) × (next : PacketState) × IsStage next
+      × Answers (reading_of (Data count value)) bit result (reading_of next)
+  data_answer true (inl l) = let r = bit_or_range value count l h.1 in (
+    Ok None,
+    Data (count + 1) _,
+    (omega arith, r),
+    data_goes_on count value _ true l r (low_bits_set value count l),
+  )
   data_answer false (inl l) = let wider : 2 ^ count < 2 ^ (count + 1) = pow_below count (count + 1) (omega arith) in
-      let r : value < 2 ^ (count + 1) = omega (arith, h.1) in (Ok None, Data (count + 1) value, (omega arith, r), data_goes_on count value value false l r (low_bits_clear value count h.1))
+      let r : value < 2 ^ (count + 1) = omega (arith, h.1) in (
+        Ok None,
+        Data (count + 1) value,
+        (omega arith, r),
+        data_goes_on count value value false l r
+            (low_bits_clear value count h.1),
+      )
   data_answer true (inr l) = (Err Framing, Failed, tt, (refl, data_breaks count value l h, refl))
   data_answer false (inr l) = (Ok (Some (Byte value)), Idle, tt, data_ends count value l h)
 some_answer Failed bit h = (Err Framing, Failed, tt, (refl, tt, refl))
 
 -- bits that come after others have a reading
-some_more : (bits more : List Bool) (packets : List Packet) (stage : PacketState) → IsStage stage → HasRead bits packets (reading_of stage) → (all : List Packet) × (reading : Reading) × HasRead (bits ++ more) all reading
+some_more : (bits more : List Bool) (packets : List Packet) (stage : PacketState) → IsStage stage → HasRead bits packets (reading_of stage)
+    → (all : List Packet) × (reading : PacketView) × HasRead (bits ++ more) all reading
 some_more bits [] packets stage h r = (packets, reading_of stage, subst (λ (xs : List Bool). HasRead xs packets (reading_of stage)) (sym (append-nil bits)) r)
 some_more bits (bit ∷ more) packets stage h r =
     let (result, next, is, answers) = some_answer stage bit h in
@@ -97,5 +113,5 @@ some_more bits (bit ∷ more) packets stage h r =
     (all.0, all.1, subst (λ (xs : List Bool). HasRead xs all.0 all.1) (append_assoc bits (bit ∷ []) more) all.2)
 
 -- bits have a reading
-pub some_reading : (bits : List Bool) → (packets : List Packet) × (reading : Reading) × HasRead bits packets reading
+pub some_reading : (bits : List Bool) → (packets : List Packet) × (reading : PacketView) × HasRead bits packets reading
 some_reading bits = some_more [] bits [] Idle tt (goes_on [] (IsPartial-reading_of Idle tt))

@@ -2,7 +2,8 @@
 -- protocol.
 -- A line is idle bits, data packets and acknowledges one after another; the last packet may not be
 -- whole yet.
-use Rattle.std.specs.Prelude.{◌≡◌, ◌==◌, ◌<◌, ◌^◌, ℕ, Bool, true, false, List, [], ◌∷◌, ◌++◌, length, take, map}
+use Rattle.std.specs.Prelude.{◌≡◌, ◌==◌, ◌<◌, ◌^◌, ℕ, Bool, true, false, List, [], ◌∷◌, ◌++◌}
+use Rattle.std.specs.Prelude.{length, take, map}
 use Rattle.std.specs.Int.{bit_at}
 use Rattle.std.specs.List.{flat_map, range_with_len, AllByRecursion}
 use Rattle.link_bytes.specs.declared.packet.TheConstants.{DATA_BITS}

@@ -6,10 +6,10 @@ use Rattle.link_bytes.specs.declared.packet.TheConstants.{DATA_BITS}
 use Rattle.link_bytes.specs.declared.reader.PacketState.{PacketState}
 use Rattle.link_bytes.specs.declared.reader.PacketState.TheVariants.{Idle, Started, Data, Failed}
 use Rattle.link_bytes.specs.Line.{low_bits, AreLineBits}
-use Rattle.link_bytes.specs.Reading.{Reading, begun, failed}
+use Rattle.link_bytes.specs.Reading.{PacketView, begun, failed}
 
 -- the bits of a packet that has come so far
-abbrev pub reading_of : PacketState → Reading
+abbrev pub reading_of : PacketState → PacketView
 reading_of Idle = begun []
 reading_of Started = begun (true ∷ [])
 reading_of (Data count value) = begun (true ∷ true ∷ low_bits value count)
@@ -24,7 +24,7 @@ IsStage Failed = Unit {0}
 
 -- what had come of a packet and the bit are a line with the packet that is given, if one is, and
 -- then what has come now
-abbrev pub Reads : Reading → Bool → Option Packet → Reading → Type 0
+abbrev pub Reads : PacketView → Bool → Option Packet → PacketView → Type 0
 Reads (begun rest) bit given (begun left) =
     AreLineBits (rest ++ bit ∷ []) (option_to_list given) left
 Reads (begun rest) bit given failed = ⊥

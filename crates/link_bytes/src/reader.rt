@@ -1,10 +1,13 @@
 //! A line that is read bit by bit.
 
-ghost use Rattle.std.specs.Prelude.{◌≡◌, ◌≢◌, ◌<◌, ◌^◌, ◌+◌, ◌↔◌, ◌++◌, ◌∷◌, [], List, Bool, Option, IsOk, IsErr, IfOk, IfErr, OnOk, OnErr};
+ghost use Rattle.std.specs.Prelude.{◌≡◌, ◌≢◌, ◌<◌, ◌^◌, ◌+◌, ◌↔◌, ◌++◌, ◌∷◌, [], List, Bool};
+ghost use Rattle.std.specs.Prelude.{Option, IsOk, IsErr, IfOk, IfErr, OnOk, OnErr};
 ghost use Rattle.std.specs.Option.{option_to_list};
 ghost use Rattle.link_bytes.specs.declared.packet.Packet.{Packet};
-ghost use Rattle.link_bytes.specs.Line.{ArePackets, AreLineBits, IsPacketFront, Sign, line_bits, low_bits, packets_among};
-ghost use Rattle.link_bytes.specs.Reading.{begun, failed, HasRead, IsPartial, IsFramingFault, EndsReading, packets_given};
+ghost use Rattle.link_bytes.specs.Line.{ArePackets, AreLineBits, IsPacketFront, Sign, line_bits};
+ghost use Rattle.link_bytes.specs.Line.{low_bits, packets_among};
+ghost use Rattle.link_bytes.specs.Reading.{begun, failed, HasRead, IsPartial, IsFramingFault};
+ghost use Rattle.link_bytes.specs.Reading.{EndsReading, packets_given};
 ghost use Rattle.link_bytes.specs.Stages.{IsStage, Becomes, reading_of};
 
 use crate::fault::LinkFault;
@@ -33,9 +36,9 @@ pub struct BitReader {
 }
 
 impl Model for BitReader {
-    ghost use Rattle.link_bytes.specs.Reading.{Reading};
+    ghost use Rattle.link_bytes.specs.Reading.{PacketView};
 
-    ghost Value = { Reading };
+    ghost Value = { PacketView };
 
     ghost use Rattle.link_bytes.specs.Stages.{IsStage, reading_of};
 
@@ -49,7 +52,9 @@ impl BitReader {
     pub fn new() -> BitReader
         ensures { result ≡ begun [] }
     {
-        BitReader { stage: PacketState::Idle }
+        BitReader {
+            stage: PacketState::Idle,
+        }
     }
 
     /// Takes the next bit and answers the packet that ends with it, if one does.
@@ -99,8 +104,14 @@ fn next_stage(stage: PacketState, bit: bool) -> (PacketState, Result<Option<Pack
             let count = count + 1;
             (PacketState::Data { count, value }, Ok(None))
         }
-        (PacketState::Data { value, .. }, false) => (PacketState::Idle, Ok(Some(Packet::Byte(value)))),
-        (PacketState::Data { .. }, true) | (PacketState::Failed, _) => (PacketState::Failed, Err(LinkFault::Framing)),
+        (PacketState::Data { value, .. }, false) => (
+            PacketState::Idle,
+            Ok(Some(Packet::Byte(value))),
+        ),
+        (PacketState::Data { .. }, true) | (PacketState::Failed, _) => (
+            PacketState::Failed,
+            Err(LinkFault::Framing),
+        ),
     }
 }
 

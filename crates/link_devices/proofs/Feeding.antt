@@ -5,12 +5,14 @@ use Rattle.peek_poke.specs.declared.fault.AnswerFault.TheVariants.{Boot, Misalig
 use Rattle.peek_poke.specs.Effects.{ReadsWord, WritesWord, Feeds, IsCause}
 use Rattle.peek_poke.specs.Messages.{IsPartial, Pending}
 
-module _ {S : Type 0} (read : ReadsWord S) (write : WritesWord S) (old other new left : Pending) (s t : S) (byte : ℕ) (failed : old.failed ≡ other.failed) (bytes : old.bytes ≡ other.bytes) where
+module _ {S : Type 0} (read : ReadsWord S) (write : WritesWord S) (old other new left : Pending) (s t : S) (byte : ℕ) (failed : old.failed ≡ other.failed)
+    (bytes : old.bytes ≡ other.bytes) where
   longer : old.bytes ++ byte ∷ [] ≡ other.bytes ++ byte ∷ []
   longer = ap (λ (x : List ℕ). x ++ byte ∷ []) bytes
 
   -- two ends to which the same has come of a message take it alike
-  pub same_taken : (answer : Option (List ℕ)) → new.failed ≡ left.failed → new.bytes ≡ left.bytes → Feeds read write old s byte (Ok answer) new t → Feeds read write other s byte (Ok answer) left t
+  pub same_taken : (answer : Option (List ℕ)) → new.failed ≡ left.failed → new.bytes ≡ left.bytes → Feeds read write old s byte (Ok answer) new t
+      → Feeds read write other s byte (Ok answer) left t
   same_taken answer failing begun f = (
     sym failed ∙ f.0,
     sym failing ∙ f.1,
@@ -27,5 +29,6 @@ module _ {S : Type 0} (read : ReadsWord S) (write : WritesWord S) (old other new
   same_cause Failed c = sym failed ∙ c
 
   -- and refuse it alike
-  pub same_refused : (fault : AnswerFault) → left.failed ≡ true → Feeds read write old s byte (Err fault) new t → Feeds read write other s byte (Err fault) left t
+  pub same_refused : (fault : AnswerFault) → left.failed ≡ true → Feeds read write old s byte (Err fault) new t → Feeds read write other s byte (Err fault) left
+      t
   same_refused fault failing f = (failing, f.1, same_cause fault f.2)

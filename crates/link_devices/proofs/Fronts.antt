@@ -43,7 +43,8 @@ does_nothing s t (Poke address word) answer d = let e = d.1 in cc
 does_nothing s t (Peek address) answer d = let e = d.1.2 in cc
 
 -- a byte that is taken there is kept, and nothing is answered
-pub waits : (s t : NoMemory) (old new : Pending) (byte : ℕ) (answer : Option (List ℕ)) → Feeds none_read none_written old s byte (Ok answer) new t → (new.failed ≡ false) × (new.bytes ≡ old.bytes ++ byte ∷ []) × (answer ≡ None)
+pub waits : (s t : NoMemory) (old new : Pending) (byte : ℕ) (answer : Option (List ℕ)) → Feeds none_read none_written old s byte (Ok answer) new t
+    → (new.failed ≡ false) × (new.bytes ≡ old.bytes ++ byte ∷ []) × (answer ≡ None)
 waits s t old new byte answer f =
     elim f.2 [
       | inl w ↦ (f.1, w.kept, w.silent)
@@ -55,7 +56,8 @@ high_control byte bytes h (inl p) = omega (arith, p.0)
 high_control byte bytes h (inr p) = omega (arith, p.0)
 
 -- no byte of less than a message is refused
-pub taken_there : (s : NoMemory) (old : Pending) (byte : ℕ) (fault : AnswerFault) → old.failed ≡ false → IsPartial (old.bytes ++ byte ∷ []) → IsCause none_read none_written old s byte fault → ⊥
+pub taken_there : (s : NoMemory) (old : Pending) (byte : ℕ) (fault : AnswerFault) → old.failed ≡ false → IsPartial (old.bytes ++ byte ∷ [])
+    → IsCause none_read none_written old s byte fault → ⊥
 taken_there s old byte (Boot control) alive p c = high_control byte [] c.3 (subst IsPartial (ap (λ (t : List ℕ). t ++ byte ∷ []) c.1) p)
 taken_there s old byte Misaligned alive p c = no_message (old.bytes ++ byte ∷ []) c.1.0 c.1.1 p c.1.2
 taken_there s old byte Outside alive p c = no_message (old.bytes ++ byte ∷ []) c.1.0 c.1.1 p c.1.2

@@ -39,17 +39,20 @@ answer-input byte h =
     ] refl
 
 -- the state with another byte of an output
-pub with_output : (s : SwitchState) (i byte connecting : ℕ) → IsSwitchState s → is_answer byte ≡ true → connecting ≤ 1 → IsSwitchState (record { outputs = set s.outputs i byte; begun = s.begun; begun_count = s.begun_count; connecting = connecting })
+pub with_output : (s : SwitchState) (i byte connecting : ℕ) → IsSwitchState s → is_answer byte ≡ true → connecting ≤ 1
+    → IsSwitchState (record { outputs = set s.outputs i byte; begun = s.begun; begun_count = s.begun_count; connecting = connecting })
 with_output s i byte connecting h answer low = record {
   all_outputs = length-set s.outputs i byte ∙ h.all_outputs;
-  answers = list_all-from_AllPass is_answer (set s.outputs i byte) (All-set (λ x. is_answer x ≡ true) s.outputs i byte answer (AllPass-from_list_all is_answer s.outputs h.answers));
+  answers = list_all-from_AllPass is_answer (set s.outputs i byte)
+      (All-set (λ x. is_answer x ≡ true) s.outputs i byte answer (AllPass-from_list_all is_answer s.outputs h.answers));
   room = h.room;
   begun = h.begun;
   behind = h.behind;
   connecting = low;
 }
 
-pub sources-connected : (outputs : List ℕ) (i input : ℕ) → i < length outputs → sources_of (map input_of (set outputs i (CONNECTED + input))) ≡ insert (sources_of (map input_of outputs)) i input
+pub sources-connected : (outputs : List ℕ) (i input : ℕ) → i < length outputs → sources_of (map input_of (set outputs i (CONNECTED + input)))
+    ≡ insert (sources_of (map input_of outputs)) i input
 sources-connected outputs i input h =
     ap sources_of (map-set input_of outputs i (CONNECTED + input) ∙ ap (set (map input_of outputs) i) (connected_byte input))
     ∙ sources_connect (map input_of outputs) i input (omega (arith, length-map outputs input_of))
@@ -64,7 +67,8 @@ input_at outputs i h =
     sym (get_or-map input_of outputs i 0 None h) ∙ source_at (map input_of outputs) i i None (omega (arith, length-map outputs input_of)) refl
 
 -- what an output answers
-pub answer_at : (outputs : List ℕ) (i : ℕ) → list_all is_answer outputs ≡ true → i < length outputs → get_or outputs i 0 ≡ answer_byte (get (sources_of (map input_of outputs)) i)
+pub answer_at : (outputs : List ℕ) (i : ℕ) → list_all is_answer outputs ≡ true → i < length outputs → get_or outputs i 0
+    ≡ answer_byte (get (sources_of (map input_of outputs)) i)
 answer_at outputs i all h =
     sym (answer-input (get_or outputs i 0) (AllPass-from_list_all is_answer outputs all i 0 h)) ∙ ap answer_byte (input_at outputs i h)
 

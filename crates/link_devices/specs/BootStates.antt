@@ -2,7 +2,7 @@
 use Rattle.std.specs.Prelude.{◌≡◌, ◌≤◌, ◌==◌, ℕ, List, [], length, take}
 use Rattle.peek_poke.specs.Messages.{IsPartial, Pending, rest_after}
 use Rattle.link_devices.specs.declared.boot_state.BootState.{BootState}
-use Rattle.link_devices.specs.declared.boot_state.TheConstants.{MAX_PARTIAL}
+use Rattle.link_devices.specs.declared.boot_state.TheConstants.{MAX_PARTIAL_MESSAGE}
 
 -- the bytes that have come of the next message
 abbrev pub message_begun : BootState → List ℕ
@@ -18,7 +18,7 @@ new_boot_end = rest_after []
 
 -- an end has this state
 pub record IsBootState (s : BootState) : Type 0 where
-  pub room : length s.begun ≡ MAX_PARTIAL
-  pub most : s.begun_count ≤ MAX_PARTIAL
+  pub room : length s.begun ≡ MAX_PARTIAL_MESSAGE
+  pub most : s.begun_count ≤ MAX_PARTIAL_MESSAGE
   pub partial : IsPartial (message_begun s)
   pub failed : s.failed ≤ 1

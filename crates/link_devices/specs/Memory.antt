@@ -1,5 +1,6 @@
 -- The words of a module's memory, which are bytes from a base address on.
-use Rattle.std.specs.Prelude.{ℕ, ◌+◌, ◌-◌, ◌%◌, ◌==◌, ◌&&◌, List, ◌++◌, length, take, drop, nat_le, Result, Ok, Err, if◌then◌else◌}
+use Rattle.std.specs.Prelude.{ℕ, ◌+◌, ◌-◌, ◌%◌, ◌==◌, ◌&&◌, List, ◌++◌, length, take, drop, nat_le}
+use Rattle.std.specs.Prelude.{Result, Ok, Err, if◌then◌else◌}
 use Rattle.std.specs.Int.{from_le_bytes}
 use mir.Syntax.{w32}
 use Rattle.module_memory.specs.declared.address.TheConstants.{WORD_BYTES}

@@ -13,7 +13,8 @@ use Rattle.link_devices.specs.SwitchStates.{IsSwitchState, kept_end}
 -- has this state, and it stays
 abbrev pub SwitchTakesByte : SwitchState → ℕ → Result (Option ℕ) TakeFault → SwitchState → Type 0
 SwitchTakesByte old byte (Ok reply) new =
-    IsSwitchState old × IsSwitchState new × HasTaken (kept_end old) byte (option_to_list reply) (kept_end new)
+    IsSwitchState old × IsSwitchState new × HasTaken (kept_end old) byte (option_to_list reply)
+    (kept_end new)
 SwitchTakesByte old byte (Err (Byte fault)) new =
     IsSwitchState old × IsSwitchState new × IsFault (kept_end old).begun byte fault
     × (kept_end new ≡ record { switch = (kept_end old).switch; begun = [] })

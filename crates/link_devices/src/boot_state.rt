@@ -4,7 +4,8 @@ ghost use Rattle.std.specs.Prelude.{◌≡◌, ◌++◌, ◌∷◌, [], MatchOpt
 ghost use Rattle.peek_poke.specs.Effects.{Feeds};
 ghost use Rattle.peek_poke.specs.Messages.{IsPartial};
 ghost use Rattle.link_devices.specs.Memory.{memory_read, memory_write};
-ghost use Rattle.link_devices.specs.BootStates.{IsBootState, message_begun, new_boot_end, pending_of};
+ghost use Rattle.link_devices.specs.BootStates.{IsBootState, message_begun, new_boot_end};
+ghost use Rattle.link_devices.specs.BootStates.{pending_of};
 ghost use Rattle.link_devices.specs.BootTaking.{EndTakesByte};
 
 use crate::boot_fault::BootFault;
@@ -12,7 +13,7 @@ use crate::memory::{LentMemory, NoMemory};
 use peek_poke::{AnswerFault, Answerer, POKE_BYTES, REPLY_BYTES};
 
 /// How many bytes can have come of a message: one less than the longest has.
-pub const MAX_PARTIAL: usize = POKE_BYTES - 1;
+pub const MAX_PARTIAL_MESSAGE: usize = POKE_BYTES - 1;
 
 /// The bytes that keep an end. Not all bytes do: those that no end has are refused by each call.
 /// That they are these is this project's choice.
@@ -20,8 +21,8 @@ pub const MAX_PARTIAL: usize = POKE_BYTES - 1;
 #[derive(Clone, Copy)]
 pub struct BootState {
     /// The bytes that have come of a message. What stands after them has no effect.
-    pub begun: [u8; MAX_PARTIAL],
-    /// How many bytes have come of it, 0 to [`MAX_PARTIAL`].
+    pub begun: [u8; MAX_PARTIAL_MESSAGE],
+    /// How many bytes have come of it, 0 to [`MAX_PARTIAL_MESSAGE`].
     pub begun_count: u8,
     /// 1 once the end has refused a byte, and else 0.
     pub failed: u8,
@@ -34,7 +35,7 @@ impl BootState {
         ensures new { pending_of result ≡ new_boot_end }
     {
         BootState {
-            begun: [0; MAX_PARTIAL],
+            begun: [0; MAX_PARTIAL_MESSAGE],
             begun_count: 0,
             failed: 0,
         }
@@ -94,9 +95,10 @@ impl BootState {
     /// where no end has this state.
     fn answerer(&self) -> Option<Answerer>
         ensures { MatchOption result (IsBootState self.now → ⊥)
-            (λ end. IsBootState self.now × (end.failed ≡ false) × (end.bytes ≡ message_begun self.now)) }
+            (λ end. IsBootState self.now × (end.failed ≡ false)
+            × (end.bytes ≡ message_begun self.now)) }
     {
-        if self.failed > 1 || usize::from(self.begun_count) > MAX_PARTIAL {
+        if self.failed > 1 || usize::from(self.begun_count) > MAX_PARTIAL_MESSAGE {
             return None;
         }
         answerer_of(&self.begun[..usize::from(self.begun_count)])

@@ -1,7 +1,8 @@
 //! Words of memory that a caller lends.
 
 ghost use Rattle.std.specs.Prelude.{◌≡◌, MatchResult, ◌+◌, ◌≤◌};
-ghost use Rattle.link_devices.specs.Memory.{byte_place, lent_read, lent_write, none_read, none_written};
+ghost use Rattle.link_devices.specs.Memory.{byte_place, lent_read, lent_write, none_read};
+ghost use Rattle.link_devices.specs.Memory.{none_written};
 
 use module_memory::WORD_BYTES;
 use peek_poke::{StoreFault, WordStore};

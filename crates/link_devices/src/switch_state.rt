@@ -4,7 +4,8 @@ ghost use Rattle.std.specs.Prelude.{◌≡◌, ◌↔◌, IsTrue, MatchOption};
 ghost use Rattle.std.specs.List.{list_all};
 ghost use Rattle.c004_commands.specs.Commands.{IsCommandFront};
 ghost use Rattle.link_devices.specs.SwitchBytes.{is_answer};
-ghost use Rattle.link_devices.specs.SwitchStates.{IsSwitchState, command_begun, kept_end, new_switch_end, HasZerosAfter};
+ghost use Rattle.link_devices.specs.SwitchStates.{IsSwitchState, command_begun, kept_end};
+ghost use Rattle.link_devices.specs.SwitchStates.{new_switch_end, HasZerosAfter};
 
 use c004_commands::{CONNECTED, CommandReader, LONGEST_COMMAND, PORTS};
 
@@ -12,7 +13,7 @@ use c004_commands::{CONNECTED, CommandReader, LONGEST_COMMAND, PORTS};
 pub const OUTPUTS: usize = PORTS as usize;
 
 /// How many bytes can have come of a command: one less than the longest has.
-pub const MAX_PARTIAL: usize = LONGEST_COMMAND - 1;
+pub const MAX_PARTIAL_COMMAND: usize = LONGEST_COMMAND - 1;
 
 /// The bytes that keep a switch, and what has come of its next command. Not all bytes do: those
 /// that no switch has are refused by each call. That they are these is this project's choice.
@@ -23,8 +24,8 @@ pub struct SwitchState {
     /// none does.
     pub outputs: [u8; OUTPUTS],
     /// The bytes that have come of a command, with zeros after them.
-    pub begun: [u8; MAX_PARTIAL],
-    /// How many bytes have come of it, 0 to [`MAX_PARTIAL`].
+    pub begun: [u8; MAX_PARTIAL_COMMAND],
+    /// How many bytes have come of it, 0 to [`MAX_PARTIAL_COMMAND`].
     pub begun_count: u8,
     /// 1 from a command that connects to the next that settles or resets, and else 0.
     pub connecting: u8,
@@ -38,7 +39,7 @@ impl SwitchState {
     {
         SwitchState {
             outputs: [0; OUTPUTS],
-            begun: [0; MAX_PARTIAL],
+            begun: [0; MAX_PARTIAL_COMMAND],
             begun_count: 0,
             connecting: 0,
         }

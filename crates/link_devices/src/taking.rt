@@ -8,7 +8,7 @@ ghost use Rattle.link_devices.specs.SwitchStates.{IsSwitchState, command_begun, 
 ghost use Rattle.link_devices.specs.SwitchTaking.{SwitchTakesByte};
 
 use crate::switch_fault::TakeFault;
-use crate::switch_state::{MAX_PARTIAL, OUTPUTS, SwitchState};
+use crate::switch_state::{MAX_PARTIAL_COMMAND, OUTPUTS, SwitchState};
 use c004_commands::{CONNECTED, Command, PortNo};
 
 impl SwitchState {
@@ -45,7 +45,7 @@ impl SwitchState {
         ensures dropped { kept_end self.new
             ≡ record { switch = (kept_end self.old).switch; begun = [] } }
     {
-        self.begun = [0; MAX_PARTIAL];
+        self.begun = [0; MAX_PARTIAL_COMMAND];
         self.begun_count = 0;
     }
 

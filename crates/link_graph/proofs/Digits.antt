@@ -1,5 +1,6 @@
 -- Numbers of at most four digits.
-use Rattle.std.proofs.Common.{◌≡◌, ℕ, zero, suc, ◌+◌, ◌-◌, ◌*◌, ◌/◌, ◌%◌, ◌<◌, ◌≤◌, Bool, true, ◌&&◌, T, eqb, ◌++◌, List, [], ◌∷◌, get_or, ◌∙◌, refl, ap, sym, inl, inr, arith, eq-zero-or-pos, eqb→eq, Result, Ok, Err, OnOk, is_ok, if◌then◌else◌}
+use Rattle.std.proofs.Common.{◌≡◌, ℕ, zero, suc, ◌+◌, ◌-◌, ◌*◌, ◌/◌, ◌%◌, ◌<◌, ◌≤◌, Bool, true, ◌&&◌, T, eqb, ◌++◌, List, [], ◌∷◌, get_or, ◌∙◌, refl, ap, sym, inl, inr, arith, eq-zero-or-pos, eqb→eq}
+use Rattle.std.proofs.Common.{Result, Ok, Err, OnOk, is_ok, if◌then◌else◌}
 use Rattle.std.specs.Fmt.{decimal}
 use Rattle.std.proofs.lemmas.Fmt.{decimal_digit, decimal_step}
 use lib.Ieee.Fits.{and_l, and_r}
@@ -71,6 +72,7 @@ pub spaced_step : (n : ℕ) → 10 ≤ n → n < 18446744073709551616 → spaced
 spaced_step n ge lt = rw (decimal_step n ge lt) refl
 
 -- what is put at the end where a call succeeds
-pub put : {T E : Type 0} (r : Result T E) (new old bytes same : List ℕ) → new ≡ (if is_ok r then old ++ bytes else old) → same ≡ bytes → OnOk r (new ≡ old ++ same)
+pub put : {T E : Type 0} (r : Result T E) (new old bytes same : List ℕ) → new ≡ (if is_ok r then old ++ bytes else old) → same ≡ bytes
+    → OnOk r (new ≡ old ++ same)
 put (Ok x) new old bytes same e is = e ∙ ap (λ (l : List ℕ). old ++ l) (sym is)
 put (Err x) new old bytes same e is = tt

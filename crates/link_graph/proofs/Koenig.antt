@@ -23,7 +23,8 @@ unfolding among
 none_among named u h = sum_zeros (λ t. hit t u) named (each (λ t. u ≢ t) (λ t. hit t u ≡ 0) (λ t ne. hit_other t u ne) named h)
 
 -- u is none of the named, or is one and uses what they all use
-among_cases : (P : ℕ → Type 0) (named : List ℕ) (u : ℕ) → AllByRecursion P named → AllPairs (λ t u. t ≢ u) named → (among named u ≡ 0) ⊎ ((among named u ≡ 1) × P u)
+among_cases : (P : ℕ → Type 0) (named : List ℕ) (u : ℕ) → AllByRecursion P named → AllPairs (λ t u. t ≢ u) named → (among named u ≡ 0)
+    ⊎ ((among named u ≡ 1) × P u)
 unfolding among
 among_cases P [] u all distinct = inl refl
 among_cases P (t ∷ ts) u all distinct =
@@ -40,7 +41,8 @@ among_cases P (t ∷ ts) u all distinct =
     ]
 
 -- where u uses the link, nothing apart from it does, and so nothing apart from it is named
-rest_zero : (batch : List Transfer) (link : Link) (named : List ℕ) (u : ℕ) (setting : List ℕ) → AllByRecursion (λ t. Uses batch t link) named → AllPairs (λ t u. t ≢ u) named → Uses batch u link → AllByRecursion (AreApart batch u) setting → sum_by (among named) setting ≡ 0
+rest_zero : (batch : List Transfer) (link : Link) (named : List ℕ) (u : ℕ) (setting : List ℕ) → AllByRecursion (λ t. Uses batch t link) named
+    → AllPairs (λ t u. t ≢ u) named → Uses batch u link → AllByRecursion (AreApart batch u) setting → sum_by (among named) setting ≡ 0
 rest_zero batch link named u [] all distinct uses apart = refl
 rest_zero batch link named u (x ∷ xs) all distinct uses apart =
     elim (among_cases (λ t. Uses batch t link) named x all distinct) [
@@ -49,35 +51,51 @@ rest_zero batch link named u (x ∷ xs) all distinct uses apart =
     ]
 
 -- a setting holds at most one of them
-one_in_setting : (batch : List Transfer) (link : Link) (named : List ℕ) (setting : List ℕ) → AllByRecursion (λ t. Uses batch t link) named → AllPairs (λ t u. t ≢ u) named → IsMatching batch setting → sum_by (among named) setting ≤ 1
+one_in_setting : (batch : List Transfer) (link : Link) (named : List ℕ) (setting : List ℕ) → AllByRecursion (λ t. Uses batch t link) named
+    → AllPairs (λ t u. t ≢ u) named → IsMatching batch setting → sum_by (among named) setting ≤ 1
 one_in_setting batch link named [] all distinct matching = omega arith
 one_in_setting batch link named (x ∷ xs) all distinct matching =
     elim (among_cases (λ t. Uses batch t link) named x all distinct) [
       | inl zero ↦ omega (arith, sum_by-cons (among named) x xs, zero, one_in_setting batch link named xs all distinct (later (AreApart batch) x xs matching))
-      | inr one ↦ omega (arith, sum_by-cons (among named) x xs, one.0, rest_zero batch link named x xs all distinct one.1 (recursion_from_All (AreApart batch x) xs (first_with (AreApart batch) x xs matching)))
+      | inr one ↦ omega (
+        arith,
+        sum_by-cons (among named) x xs,
+        one.0,
+        rest_zero batch link named x xs all distinct one.1
+            (recursion_from_All (AreApart batch x) xs (first_with (AreApart batch) x xs matching)),
+      )
     ]
 
 -- the named stand once each
-total : (batch : List Transfer) (link : Link) (named : List ℕ) (settings : List (List ℕ)) → AllByRecursion (λ t. Uses batch t link) named → IsScheduleOf batch settings → sum_by (λ t. times t settings) named ≡ length named
+total : (batch : List Transfer) (link : Link) (named : List ℕ) (settings : List (List ℕ)) → AllByRecursion (λ t. Uses batch t link) named
+    → IsScheduleOf batch settings → sum_by (λ t. times t settings) named ≡ length named
 total batch link named settings all schedule =
-    sum_ones (λ t. times t settings) named (each (λ t. Uses batch t link) (λ t. times t settings ≡ 1) (λ t uses. schedule.once t (used_within batch t link uses)) named all)
+    sum_ones (λ t. times t settings) named
+    (each (λ t. Uses batch t link) (λ t. times t settings ≡ 1) (λ t uses. schedule.once t (used_within batch t link uses)) named all)
 
 -- counted by settings
 by_settings : (named : List ℕ) (settings : List (List ℕ)) → sum_by (λ t. times t settings) named ≡ sum_by (λ setting. sum_by (among named) setting) settings
 unfolding among
 by_settings named settings =
     swap (λ t setting. count_by (λ u. u == t) setting) named settings
-    ∙ sum_same (λ setting. sum_by (λ t. count_by (λ u. u == t) setting) named) (λ setting. sum_by (among named) setting) settings (λ setting. swap (λ t u. hit t u) named setting)
+    ∙ sum_same (λ setting. sum_by (λ t. count_by (λ u. u == t) setting) named) (λ setting. sum_by (among named) setting) settings
+    (λ setting. swap (λ t u. hit t u) named setting)
 
-pub at_least : (batch : List Transfer) (link : Link) (named : List ℕ) (settings : List (List ℕ)) → All (λ t. Uses batch t link) named → AllPairs (λ t u. t ≢ u) named → IsScheduleOf batch settings → length named ≤ length settings
+pub at_least : (batch : List Transfer) (link : Link) (named : List ℕ) (settings : List (List ℕ)) → All (λ t. Uses batch t link) named
+    → AllPairs (λ t u. t ≢ u) named → IsScheduleOf batch settings → length named ≤ length settings
 at_least batch link named settings all distinct schedule =
     let uses = recursion_from_All (λ t. Uses batch t link) named all in
-    let most = sum_at_most (λ s. sum_by (among named) s) settings (each (IsMatching batch) (λ s. sum_by (among named) s ≤ 1) (λ s matching. one_in_setting batch link named s uses distinct matching) settings (recursion_from_All (IsMatching batch) settings schedule.matchings)) in
+    let most = sum_at_most (λ s. sum_by (among named) s) settings
+    (each (IsMatching batch) (λ s. sum_by (among named) s ≤ 1) (λ s matching. one_in_setting batch link named s uses distinct matching) settings
+    (recursion_from_All (IsMatching batch) settings schedule.matchings)) in
     omega (arith, most, total batch link named settings uses schedule, by_settings named settings)
 
-certified_by : (batch : List Transfer) (settings : List (List ℕ)) (link : Option Link) (named : List ℕ) → IsScheduleOf batch settings → CertifiesBy batch settings link named → IsShortest batch settings
+certified_by : (batch : List Transfer) (settings : List (List ℕ)) (link : Option Link) (named : List ℕ) → IsScheduleOf batch settings
+    → CertifiesBy batch settings link named → IsShortest batch settings
 certified_by batch settings None named schedule c = record { schedule = schedule; least = λ other is. rw c.no_settings (omega arith) }
-certified_by batch settings (Some link) named schedule c = record { schedule = schedule; least = λ other is. omega (arith, at_least batch link named other c.all_use c.distinct is, c.many) }
+certified_by batch settings (Some link) named schedule c =
+    record { schedule = schedule; least = λ other is. omega (arith, at_least batch link named other c.all_use c.distinct is, c.many) }
 
-pub certified : (batch : List Transfer) (settings : List (List ℕ)) (named : Naming) → IsScheduleOf batch settings → IsCertificate batch settings named → IsShortest batch settings
+pub certified : (batch : List Transfer) (settings : List (List ℕ)) (named : Naming) → IsScheduleOf batch settings → IsCertificate batch settings named
+    → IsShortest batch settings
 certified batch settings named = certified_by batch settings named.link named.transfers

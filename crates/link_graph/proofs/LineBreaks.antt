@@ -70,7 +70,8 @@ word_end bytes e = word_end_at bytes e (position (λ b. b == e) bytes) refl
 -- bytes without a line feed hold no whole line
 pub no_break : (text line after : List ℕ) → IsLine text → text ≡ line ++ line_feed ∷ after → ⊥
 no_break text line after within same =
-    within (length line) 0 (omega (arith, ap length same, length-append line (line_feed ∷ after))) (ap (λ (bs : List ℕ). get_or bs (length line) 0) same ∙ get_or_at line line_feed after 0 (length line) refl)
+    within (length line) 0 (omega (arith, ap length same, length-append line (line_feed ∷ after))) (ap (λ (bs : List ℕ). get_or bs (length line) 0) same
+    ∙ get_or_at line line_feed after 0 (length line) refl)
 
 -- one first line, and one rest
 pub one_line : (a b x y : List ℕ) → IsLine a → IsLine b → a ++ line_feed ∷ x ≡ b ++ line_feed ∷ y → (a ≡ b) × (x ≡ y)
@@ -88,11 +89,13 @@ pub record GoesOn (before lines : List (List ℕ)) (rest other : List ℕ) : Typ
   pub list : lines ≡ before ++ more
   pub text : rest ≡ text_of more ++ other
 
-pub goes_on : (before lines : List (List ℕ)) (rest other : List ℕ) → All IsLine before → All IsLine lines → length before ≤ length lines → text_of before ++ rest ≡ text_of lines ++ other → GoesOn before lines rest other
+pub goes_on : (before lines : List (List ℕ)) (rest other : List ℕ) → All IsLine before → All IsLine lines → length before ≤ length lines → text_of before
+    ++ rest ≡ text_of lines ++ other → GoesOn before lines rest other
 goes_on [] lines rest other wb wl le same = record { more = lines; list = refl; text = same }
 goes_on (b ∷ before) [] rest other wb wl le same = absurd (omega arith)
 goes_on (b ∷ before) (l ∷ lines) rest other wb wl le same =
-    let one = one_line b l (text_of before ++ rest) (text_of lines ++ other) (All-head IsLine b before wb) (All-head IsLine l lines wl) (sym (first_of b before rest) ∙ same ∙ first_of l lines other) in
+    let one = one_line b l (text_of before ++ rest) (text_of lines ++ other) (All-head IsLine b before wb) (All-head IsLine l lines wl)
+    (sym (first_of b before rest) ∙ same ∙ first_of l lines other) in
     let rec = goes_on before lines rest other (All-tail IsLine b before wb) (All-tail IsLine l lines wl) (omega arith) one.1 in
     record { more = rec.more; list = ap (λ (x : List ℕ). x ∷ lines) (sym one.0) ∙ ap (λ (ls : List (List ℕ)). b ∷ ls) rec.list; text = rec.text }
 

@@ -40,7 +40,9 @@ digits_lack e n low fits = All-from_get_or (λ c. c ≢ e) (decimal n) 0 (λ i l
 pub numbers_lack : (ts : List ℕ) → All IsNumber ts → Lacks line_feed (numbers ts)
 numbers_lack [] fit = All-nil (λ c. c ≢ line_feed)
 numbers_lack (t ∷ ts) fit =
-    All-append (λ c. c ≢ line_feed) (codes " " ++ decimal t) (numbers ts) (All-append (λ c. c ≢ line_feed) (codes " ") (decimal t) (word_lacks line_feed (codes " ") refl) (digits_lack line_feed t (omega arith) (All-head IsNumber t ts fit))) (numbers_lack ts (All-tail IsNumber t ts fit))
+    All-append (λ c. c ≢ line_feed) (codes " " ++ decimal t) (numbers ts)
+    (All-append (λ c. c ≢ line_feed) (codes " ") (decimal t) (word_lacks line_feed (codes " ") refl)
+    (digits_lack line_feed t (omega arith) (All-head IsNumber t ts fit))) (numbers_lack ts (All-tail IsNumber t ts fit))
 
 -- ---- numbers after spaces
 
@@ -54,15 +56,18 @@ pub record NumbersGoOn (ts us rest : List ℕ) : Type 0 where
   pub list : us ≡ ts ++ more
   pub text : rest ≡ numbers more
 
-pub numbers_go_on : (ts us rest : List ℕ) → All IsNumber ts → All IsNumber us → (0 < length ts → Starts space rest) → numbers ts ++ rest ≡ numbers us → NumbersGoOn ts us rest
+pub numbers_go_on : (ts us rest : List ℕ) → All IsNumber ts → All IsNumber us → (0 < length ts → Starts space rest) → numbers ts ++ rest ≡ numbers us
+    → NumbersGoOn ts us rest
 numbers_go_on [] us rest ft fu starts same = record { more = us; list = refl; text = same }
 numbers_go_on (t ∷ ts) [] rest ft fu starts same = absurd cc
 numbers_go_on (t ∷ ts) (u ∷ us) rest ft fu starts same =
     let at_t = All-head IsNumber t ts ft in
     let at_u = All-head IsNumber u us fu in
     let spaced : Starts space rest = starts (omega arith) in
-    let behind : decimal t ++ (numbers ts ++ rest) ≡ decimal u ++ (numbers us ++ []) = sym (append_assoc (decimal t) (numbers ts) rest) ∙ ap (drop 1) same ∙ ap (λ (x : List ℕ). decimal u ++ x) (sym (append-nil (numbers us))) in
-    let cut = one_cut space (decimal t) (decimal u) (numbers ts ++ rest) (numbers us ++ []) (digits_lack space t (omega arith) at_t) (digits_lack space u (omega arith) at_u) (starts_numbers ts rest spaced) (starts_numbers us [] refl) behind in
+    let behind : decimal t ++ (numbers ts ++ rest) ≡ decimal u ++ (numbers us ++ []) = sym (append_assoc (decimal t) (numbers ts) rest) ∙ ap (drop 1) same
+    ∙ ap (λ (x : List ℕ). decimal u ++ x) (sym (append-nil (numbers us))) in
+    let cut = one_cut space (decimal t) (decimal u) (numbers ts ++ rest) (numbers us ++ []) (digits_lack space t (omega arith) at_t)
+    (digits_lack space u (omega arith) at_u) (starts_numbers ts rest spaced) (starts_numbers us [] refl) behind in
     let rec = numbers_go_on ts us rest (All-tail IsNumber t ts ft) (All-tail IsNumber u us fu) (λ _. spaced) (cut.1 ∙ append-nil (numbers us)) in
     record {
       more = rec.more;
@@ -86,9 +91,11 @@ pub cut_number : (digits : List ℕ) (end n : ℕ) → take end digits ≡ decim
 cut_number digits end n read = sym (take-append-drop end digits) ∙ ap (λ (x : List ℕ). x ++ drop end digits) read
 
 -- where the bytes up to the next space spell no number, none stands there
-pub no_next_number : (digits : List ℕ) (end t : ℕ) (ts : List ℕ) → Lacks space (take end digits) → Starts space (drop end digits) → ((n : ℕ) → IsNumber n → take end digits ≢ decimal n) → IsNumber t → digits ≡ decimal t ++ numbers ts → ⊥
+pub no_next_number : (digits : List ℕ) (end t : ℕ) (ts : List ℕ) → Lacks space (take end digits) → Starts space (drop end digits)
+    → ((n : ℕ) → IsNumber n → take end digits ≢ decimal n) → IsNumber t → digits ≡ decimal t ++ numbers ts → ⊥
 no_next_number digits end t ts lacks starts none fits same =
-    none t fits (one_cut space (take end digits) (decimal t) (drop end digits) (numbers ts ++ []) lacks (digits_lack space t (omega arith) fits) starts (starts_numbers ts [] refl) (take-append-drop end digits ∙ same ∙ ap (λ (x : List ℕ). decimal t ++ x) (sym (append-nil (numbers ts))))).0
+    none t fits (one_cut space (take end digits) (decimal t) (drop end digits) (numbers ts ++ []) lacks (digits_lack space t (omega arith) fits) starts
+    (starts_numbers ts [] refl) (take-append-drop end digits ∙ same ∙ ap (λ (x : List ℕ). decimal t ++ x) (sym (append-nil (numbers ts))))).0
 
 -- numbers that were read, and the rest
 pub record AreRead (words ts rest : List ℕ) : Type 0 where
@@ -96,14 +103,17 @@ pub record AreRead (words ts rest : List ℕ) : Type 0 where
   pub spelled : words ≡ numbers ts ++ rest
   pub starts : 0 < length ts → Starts space rest
 
-pub read_more : (words ts rest us after : List ℕ) (n : ℕ) → AreRead words ts rest → IsNumber n × (rest ≡ codes " " ++ decimal n ++ after) × (get_or after 0 space ≡ space) → us ≡ ts ++ n ∷ [] → AreRead words us after
+pub read_more : (words ts rest us after : List ℕ) (n : ℕ) → AreRead words ts rest → IsNumber n × (rest ≡ codes " " ++ decimal n ++ after)
+    × (get_or after 0 space ≡ space) → us ≡ ts ++ n ∷ [] → AreRead words us after
 read_more words ts rest us after n so_far next pushed = rw pushed (record {
   fit = All-push IsNumber ts n so_far.fit next.0;
-  spelled = so_far.spelled ∙ ap (λ (x : List ℕ). numbers ts ++ x) next.1 ∙ sym (append_assoc (numbers ts) (codes " " ++ decimal n) after) ∙ ap (λ (x : List ℕ). x ++ after) (flat_map_more (λ t. codes " " ++ decimal t) [] ts n);
+  spelled = so_far.spelled ∙ ap (λ (x : List ℕ). numbers ts ++ x) next.1 ∙ sym (append_assoc (numbers ts) (codes " " ++ decimal n) after)
+      ∙ ap (λ (x : List ℕ). x ++ after) (flat_map_more (λ t. codes " " ++ decimal t) [] ts n);
   starts = λ _. next.2;
 })
 
-pub unread : (words ts rest : List ℕ) → AreRead words ts rest → 0 < length rest → ((t : ℕ) (us : List ℕ) → IsNumber t → rest ≢ numbers (t ∷ us)) → (us : List ℕ) → All IsNumber us → words ≢ numbers us
+pub unread : (words ts rest : List ℕ) → AreRead words ts rest → 0 < length rest → ((t : ℕ) (us : List ℕ) → IsNumber t → rest ≢ numbers (t ∷ us)) → (us : List ℕ)
+    → All IsNumber us → words ≢ numbers us
 unread words ts rest so_far some none us fit same =
     let g = numbers_go_on ts us rest so_far.fit fit so_far.starts (sym so_far.spelled ∙ same) in
     bad g.more g.text g.list
@@ -112,13 +122,15 @@ unread words ts rest so_far some none us fit same =
     bad [] text list = omega (arith, ap length text)
     bad (t ∷ more) text list = none t more (All-head IsNumber t more (All-behind IsNumber ts (t ∷ more) (subst (All IsNumber) list fit))) text
 
-pub kept : (words ts rest after : List ℕ) (n : ℕ) → AreRead words ts rest → IsNumber n × (rest ≡ codes " " ++ decimal n ++ after) × (get_or after 0 space ≡ space) → BeginsWithNumbers [] words
+pub kept : (words ts rest after : List ℕ) (n : ℕ) → AreRead words ts rest → IsNumber n × (rest ≡ codes " " ++ decimal n ++ after)
+    × (get_or after 0 space ≡ space) → BeginsWithNumbers [] words
 kept words ts rest after n so_far next =
     let more = read_more words ts rest (ts ++ n ∷ []) after n so_far next refl in
     record { transfers = ts ++ n ∷ []; rest = after; some = omega (arith, length-append ts (n ∷ [])); fit = more.fit; spelled = more.spelled }
 
 -- a fault of the words after the first is one of the line
-pub line_fault : (at : ℕ) (word line words : List ℕ) (fault : ScheduleFault) → line ≡ word ++ words → IsLineFault at [] words fault → IsLineFault at word line fault
+pub line_fault : (at : ℕ) (word line words : List ℕ) (fault : ScheduleFault) → line ≡ word ++ words → IsLineFault at [] words fault → IsLineFault
+    at word line fault
 line_fault at word line words (Line n) parts f = (f.0, λ ts fit same. f.1 ts fit (append_cancel_left word words (numbers ts) (sym parts ∙ same)))
 line_fault at word line words NoMemory parts f = record {
   transfers = f.transfers;
@@ -133,7 +145,8 @@ line_fault at word line words NoMemory parts f = record {
 pub ends_at : (n : ℕ) (rest : List ℕ) → n < 10 → decimal n ++ rest ≡ (48 + n) ∷ rest
 ends_at n rest low = ap (λ (x : List ℕ). x ++ rest) (decimal_digit n low)
 
-pub no_end : (bytes : List ℕ) → ((rest : List ℕ) → bytes ≢ 48 ∷ rest) → ((rest : List ℕ) → bytes ≢ 51 ∷ rest) → (end : End) (rest : List ℕ) → bytes ≢ decimal (end_number end) ++ rest
+pub no_end : (bytes : List ℕ) → ((rest : List ℕ) → bytes ≢ 48 ∷ rest) → ((rest : List ℕ) → bytes ≢ 51 ∷ rest) → (end : End) (rest : List ℕ)
+    → bytes ≢ decimal (end_number end) ++ rest
 no_end bytes zero three Zero rest same = zero rest (same ∙ ends_at 0 rest (omega arith))
 no_end bytes zero three Three rest same = three rest (same ∙ ends_at 3 rest (omega arith))
 

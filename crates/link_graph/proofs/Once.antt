@@ -22,7 +22,12 @@ standings-cons t x xs = sum_by-cons (hit t) x xs
 
 pub times_concat : (t : ℕ) (settings : List (List ℕ)) → times t settings ≡ standings t (concat settings)
 times_concat t [] = refl
-times_concat t (s ∷ settings) = omega (arith, sum_by-cons (λ setting. standings t setting) s settings, sum_by-append (hit t) s (concat settings), times_concat t settings)
+times_concat t (s ∷ settings) = omega (
+  arith,
+  sum_by-cons (λ setting. standings t setting) s settings,
+  sum_by-append (hit t) s (concat settings),
+  times_concat t settings,
+)
 
 pub stands_from_count : (t : ℕ) (xs : List ℕ) → 0 < standings t xs → Contains xs t
 stands_from_count t [] some = absurd (omega arith)
@@ -43,7 +48,12 @@ once_from_distinct t (x ∷ xs) distinct stands =
     let others = first_with (λ a b. a ≢ b) x xs distinct in
     elim (at_cons x t xs stands) [
       | inl e ↦ omega (arith, standings-cons t x xs, hit_same t x e, none_stands t xs (subst (λ (v : ℕ). All (λ u. v ≢ u) xs) e others))
-      | inr rest ↦ omega (arith, standings-cons t x xs, hit_other t x (λ e. All-contains (λ u. x ≢ u) xs t others rest e), once_from_distinct t xs (later (λ a b. a ≢ b) x xs distinct) rest)
+      | inr rest ↦ omega (
+        arith,
+        standings-cons t x xs,
+        hit_other t x (λ e. All-contains (λ u. x ≢ u) xs t others rest e),
+        once_from_distinct t xs (later (λ a b. a ≢ b) x xs distinct) rest,
+      )
     ]
 
 pub at_most_once : (xs : List ℕ) (u : ℕ) → AreDistinct xs → standings u xs ≤ 1
@@ -62,7 +72,8 @@ two_standings t [] i j d lt within one other = absurd (omega arith)
 two_standings t (x ∷ xs) zero zero d lt within one other = absurd (omega arith)
 two_standings t (x ∷ xs) zero (suc j) d lt within one other = omega (arith, standings-cons t x xs, hit_same t x one, one_standing t xs j d (omega arith) other)
 two_standings t (x ∷ xs) (suc i) zero d lt within one other = absurd (omega arith)
-two_standings t (x ∷ xs) (suc i) (suc j) d lt within one other = omega (arith, standings-cons t x xs, two_standings t xs i j d (omega arith) (omega arith) one other)
+two_standings t (x ∷ xs) (suc i) (suc j) d lt within one other =
+    omega (arith, standings-cons t x xs, two_standings t xs i j d (omega arith) (omega arith) one other)
 
 pub distinct_from_once : (xs : List ℕ) → ((t : ℕ) → Contains xs t → standings t xs ≤ 1) → AreDistinct xs
 distinct_from_once xs once i j d lt within same =
@@ -79,7 +90,8 @@ concat_all P (s ∷ settings) all = All-cons (All P) s settings (all_left P s (c
 
 -- ---- a schedule, in the checker's words
 
-pub schedule_is : (batch : List Transfer) (settings : List (List ℕ)) → AreKnown batch settings → AreDistinct (concat settings) → ((t : ℕ) → t < length batch → Contains (concat settings) t) → All (IsMatching batch) settings → IsScheduleOf batch settings
+pub schedule_is : (batch : List Transfer) (settings : List (List ℕ)) → AreKnown batch settings → AreDistinct (concat settings)
+    → ((t : ℕ) → t < length batch → Contains (concat settings) t) → All (IsMatching batch) settings → IsScheduleOf batch settings
 schedule_is batch settings known distinct every matchings = record {
   matchings = matchings;
   once = λ t lt. times_concat t settings ∙ once_from_distinct t (concat settings) distinct (every t lt);
@@ -91,6 +103,8 @@ is_known batch settings s = all_concat (λ t. t < length batch) settings s.no_ot
 
 pub is_once : (batch : List Transfer) (settings : List (List ℕ)) → IsScheduleOf batch settings → StandOnce batch settings
 is_once batch settings s = record {
-  distinct = distinct_from_once (concat settings) (λ t stands. omega (arith, times_concat t settings, s.once t (All-contains (λ u. u < length batch) (concat settings) t (is_known batch settings s) stands)));
+  distinct = distinct_from_once (concat settings)
+      (λ t stands. omega
+      (arith, times_concat t settings, s.once t (All-contains (λ u. u < length batch) (concat settings) t (is_known batch settings s) stands)));
   every = λ t lt. stands_from_count t (concat settings) (omega (arith, times_concat t settings, s.once t lt));
 }

@@ -25,24 +25,30 @@ use Rattle.link_graph.proofs.Sharing.{shared_no_matching}
 
 not_all : (P : ℕ → Type 0) (xs : List ℕ) (x : ℕ) → IsFirstWithout P xs x → All P xs → ⊥
 not_all P xs x w all =
-    let here : get_or xs (length w.before) 0 ≡ x = ap (λ (ys : List ℕ). get_or ys (length w.before) 0) w.parts ∙ get_or_at w.before x w.after 0 (length w.before) refl in
+    let here : get_or xs (length w.before) 0 ≡ x = ap (λ (ys : List ℕ). get_or ys (length w.before) 0) w.parts
+    ∙ get_or_at w.before x w.after 0 (length w.before) refl in
     w.bad (subst P here (all (length w.before) 0 (omega (arith, ap length w.parts, length-append w.before (x ∷ w.after)))))
 
 not_distinct : (xs : List ℕ) (x : ℕ) → IsFirstRepeated xs x → AreDistinct xs → ⊥
 not_distinct xs x r distinct =
     let at : ℕ = r.again.0 in
-    let here : get_or xs (length r.before) x ≡ x = ap (λ (ys : List ℕ). get_or ys (length r.before) x) r.parts ∙ get_or_at r.before x r.after x (length r.before) refl in
+    let here : get_or xs (length r.before) x ≡ x = ap (λ (ys : List ℕ). get_or ys (length r.before) x) r.parts
+    ∙ get_or_at r.before x r.after x (length r.before) refl in
     let earlier : get_or xs at x ≡ x = ap (λ (ys : List ℕ). get_or ys at x) r.parts ∙ get_or_append_left r.before (x ∷ r.after) x at r.again.1 ∙ r.again.2 in
     distinct at (length r.before) x r.again.1 (omega (arith, ap length r.parts, length-append r.before (x ∷ r.after))) (earlier ∙ sym here)
 
 not_every : (n : ℕ) (xs : List ℕ) (t : ℕ) → IsFirstMissing n xs t → ((u : ℕ) → u < n → Contains xs u) → ⊥
 not_every n xs t m every = m.missing (every t m.below)
 
-matching_at : (batch : List Transfer) (settings : List (List ℕ)) (k : ℕ) (setting : List ℕ) → slice_get settings k ≡ Some setting → All (IsMatching batch) settings → IsMatching batch setting
-matching_at batch settings k setting here all = subst (λ (s : List ℕ). IsMatching batch s) (get_or_from_slice_get settings k setting [] here) (all k [] (slice_get_within settings k setting here))
+matching_at : (batch : List Transfer) (settings : List (List ℕ)) (k : ℕ) (setting : List ℕ) → slice_get settings k ≡ Some setting
+    → All (IsMatching batch) settings → IsMatching batch setting
+matching_at batch settings k setting here all = subst (λ (s : List ℕ). IsMatching batch s) (get_or_from_slice_get settings k setting [] here)
+    (all k [] (slice_get_within settings k setting here))
 
-not_matchings : (batch : List Transfer) (settings : List (List ℕ)) (k : ℕ) (link : Link) → IsFirstClash batch settings k link → All (IsMatching batch) settings → ⊥
-not_matchings batch settings k link clash all = shared_no_matching batch clash.setting link (matching_at batch settings k clash.setting clash.here all) clash.shared
+not_matchings : (batch : List Transfer) (settings : List (List ℕ)) (k : ℕ) (link : Link) → IsFirstClash batch settings k link → All (IsMatching batch) settings
+    → ⊥
+not_matchings batch settings k link clash all = shared_no_matching batch clash.setting link (matching_at batch settings k clash.setting clash.here all)
+    clash.shared
 
 -- ---- one first fault of each kind
 
@@ -76,18 +82,32 @@ two_cuts (e ∷ b) (f ∷ c) x y a d same =
 
 further_bad : (P : ℕ → Type 0) (before other : List ℕ) (x : ℕ) → Further before x other → All P other → P x
 further_bad P before other x f all =
-    let here : get_or other (length before) 0 ≡ x = ap (λ (ys : List ℕ). get_or ys (length before) 0) f.list ∙ get_or_at before x f.more 0 (length before) refl in
+    let here : get_or other (length before) 0 ≡ x = ap (λ (ys : List ℕ). get_or ys (length before) 0) f.list ∙ get_or_at before x f.more 0 (length before)
+    refl in
     subst P here (all (length before) 0 (omega (arith, ap length f.list, length-append before (x ∷ f.more))))
 
 same_first : (P : ℕ → Type 0) (xs : List ℕ) (x y : ℕ) → IsFirstWithout P xs x → IsFirstWithout P xs y → x ≡ y
 same_first P xs x y p q =
     elim (two_cuts p.before q.before x y p.after q.after (sym p.parts ∙ q.parts)) [
       | inl e ↦ e
-      | inr f ↦ elim f [ inl g ↦ absurd (p.bad (further_bad P p.before q.before x g q.good)) | inr g ↦ absurd (q.bad (further_bad P q.before p.before y g p.good)) ]
+      | inr f ↦ elim f [
+        | inl g ↦ absurd (p.bad (further_bad P p.before q.before x g q.good))
+        | inr g ↦
+            absurd (q.bad (further_bad P q.before p.before y g p.good))
+      ]
     ]
 
 further_repeats : (before other : List ℕ) (x : ℕ) → Further before x other → Contains before x → AreDistinct other → ⊥
-further_repeats before other x f again distinct = not_distinct other x (record { before = before; after = f.more; parts = f.list; distinct = λ i j d lt within same. distinct i j d lt (omega (arith, ap length f.list, length-append before (x ∷ f.more))) (left i d (omega arith) ∙ same ∙ sym (left j d within)); again = again }) distinct
+further_repeats before other x f again distinct =
+    not_distinct other x
+    (record {
+      before = before;
+      after = f.more;
+      parts = f.list;
+      distinct = λ i j d lt within same. distinct i j d lt
+          (omega (arith, ap length f.list, length-append before (x ∷ f.more))) (left i d (omega arith) ∙ same ∙ sym (left j d within));
+      again = again;
+    }) distinct
   where
     left : (i d : ℕ) → i < length before → get_or other i d ≡ get_or before i d
     left i d lt = ap (λ (ys : List ℕ). get_or ys i d) f.list ∙ get_or_append_left before (x ∷ f.more) d i lt
@@ -96,7 +116,11 @@ same_repeated : (xs : List ℕ) (x y : ℕ) → IsFirstRepeated xs x → IsFirst
 same_repeated xs x y p q =
     elim (two_cuts p.before q.before x y p.after q.after (sym p.parts ∙ q.parts)) [
       | inl e ↦ e
-      | inr f ↦ elim f [ inl g ↦ absurd (further_repeats p.before q.before x g p.again q.distinct) | inr g ↦ absurd (further_repeats q.before p.before y g q.again p.distinct) ]
+      | inr f ↦ elim f [
+        | inl g ↦ absurd (further_repeats p.before q.before x g p.again q.distinct)
+        | inr g ↦
+            absurd (further_repeats q.before p.before y g q.again p.distinct)
+      ]
     ]
 
 same_missing : (n : ℕ) (xs : List ℕ) (t u : ℕ) → IsFirstMissing n xs t → IsFirstMissing n xs u → t ≡ u
@@ -107,10 +131,18 @@ same_missing n xs t u p q =
     ]
 
 in_order : (d e : End) (m n : ℕ) → (made d m ≡ made e n) ⊎ (StandsBefore (made d m) (made e n) ⊎ StandsBefore (made e n) (made d m))
-in_order Zero Zero m n = elim (cases_lt m n) [ inl less ↦ inr (inl (inr (refl, less))) | inr le ↦ elim (cases_lt n m) [ inl less ↦ inr (inr (inr (refl, less))) | inr ge ↦ inl (ap (made Zero) (omega arith)) ] ]
+in_order Zero Zero m n = elim (cases_lt m n) [
+  | inl less ↦ inr (inl (inr (refl, less)))
+  | inr le ↦
+      elim (cases_lt n m) [ inl less ↦ inr (inr (inr (refl, less))) | inr ge ↦ inl (ap (made Zero) (omega arith)) ]
+]
 in_order Zero Three m n = inr (inl (inl (refl, refl)))
 in_order Three Zero m n = inr (inr (inl (refl, refl)))
-in_order Three Three m n = elim (cases_lt m n) [ inl less ↦ inr (inl (inr (refl, less))) | inr le ↦ elim (cases_lt n m) [ inl less ↦ inr (inr (inr (refl, less))) | inr ge ↦ inl (ap (made Three) (omega arith)) ] ]
+in_order Three Three m n = elim (cases_lt m n) [
+  | inl less ↦ inr (inl (inr (refl, less)))
+  | inr le ↦
+      elim (cases_lt n m) [ inl less ↦ inr (inr (inr (refl, less))) | inr ge ↦ inl (ap (made Three) (omega arith)) ]
+]
 
 same_link : (batch : List Transfer) (settings : List (List ℕ)) (k : ℕ) (a b : Link) → IsFirstClash batch settings k a → IsFirstClash batch settings k b → a ≡ b
 same_link batch settings k a b p q =
@@ -123,13 +155,16 @@ same_link batch settings k a b p q =
       ]
     ]
 
-earlier_matching : (batch : List Transfer) (settings : List (List ℕ)) (k l : ℕ) (a b : Link) → k < l → IsFirstClash batch settings k a → IsFirstClash batch settings l b → ⊥
+earlier_matching : (batch : List Transfer) (settings : List (List ℕ)) (k l : ℕ) (a b : Link) → k < l → IsFirstClash batch settings k a
+    → IsFirstClash batch settings l b → ⊥
 earlier_matching batch settings k l a b less p q =
     let inside : l < length settings = slice_get_within settings l q.setting q.here in
     let at : get_or (take l settings) k [] ≡ p.setting = get_or-take l settings k [] less ∙ get_or_from_slice_get settings k p.setting [] p.here in
-    shared_no_matching batch p.setting a (subst (λ (s : List ℕ). IsMatching batch s) at (q.earlier k [] (omega (arith, less, length-take-le l settings (omega arith))))) p.shared
+    shared_no_matching batch p.setting a (subst (λ (s : List ℕ). IsMatching batch s)
+    at (q.earlier k [] (omega (arith, less, length-take-le l settings (omega arith))))) p.shared
 
-same_clash : (batch : List Transfer) (settings : List (List ℕ)) (k l : ℕ) (a b : Link) → IsFirstClash batch settings k a → IsFirstClash batch settings l b → Clash k a ≡ Clash l b
+same_clash : (batch : List Transfer) (settings : List (List ℕ)) (k l : ℕ) (a b : Link) → IsFirstClash batch settings k a → IsFirstClash batch settings l b
+    → Clash k a ≡ Clash l b
 same_clash batch settings k l a b p q =
     elim (cases_lt k l) [
       | inl less ↦ absurd (earlier_matching batch settings k l a b less p q)
@@ -143,15 +178,18 @@ same_clash batch settings k l a b p q =
 
 -- ---- certificates, in the checker's words
 
-pub certificate_uses : (batch : List Transfer) (settings : List (List ℕ)) (link : Option Link) (ts : List ℕ) → CertifiesBy batch settings link ts → All (λ t. IsSomeAnd link (λ l. Uses batch t l)) ts
+pub certificate_uses : (batch : List Transfer) (settings : List (List ℕ)) (link : Option Link) (ts : List ℕ) → CertifiesBy batch settings link ts
+    → All (λ t. IsSomeAnd link (λ l. Uses batch t l)) ts
 certificate_uses batch settings None ts c = rw c.none_named (λ k d lt. absurd (omega arith))
 certificate_uses batch settings (Some link) ts c = c.all_use
 
-pub certificate_distinct : (batch : List Transfer) (settings : List (List ℕ)) (link : Option Link) (ts : List ℕ) → CertifiesBy batch settings link ts → AreDistinct ts
+pub certificate_distinct : (batch : List Transfer) (settings : List (List ℕ)) (link : Option Link) (ts : List ℕ) → CertifiesBy batch settings link ts
+    → AreDistinct ts
 certificate_distinct batch settings None ts c = rw c.none_named (λ i j d lt within. absurd (omega arith))
 certificate_distinct batch settings (Some link) ts c = c.distinct
 
-pub certificate_many : (batch : List Transfer) (settings : List (List ℕ)) (link : Option Link) (ts : List ℕ) → CertifiesBy batch settings link ts → length ts ≡ length settings
+pub certificate_many : (batch : List Transfer) (settings : List (List ℕ)) (link : Option Link) (ts : List ℕ) → CertifiesBy batch settings link ts → length ts
+    ≡ length settings
 certificate_many batch settings None ts c = rw (c.none_named, c.no_settings) refl
 certificate_many batch settings (Some link) ts c = c.many
 
@@ -162,7 +200,9 @@ none_stand batch settings s empty =
       | inr few ↦ omega arith
     ]
 
-pub certificate_is : (batch : List Transfer) (settings : List (List ℕ)) (link : Option Link) (ts : List ℕ) → (IsSome link → 0 < length ts) × (0 < length ts → IsSome link) → IsScheduleOf batch settings → All (λ t. IsSomeAnd link (λ l. Uses batch t l)) ts → AreDistinct ts → length settings ≡ length ts → CertifiesBy batch settings link ts
+pub certificate_is : (batch : List Transfer) (settings : List (List ℕ)) (link : Option Link) (ts : List ℕ) → (IsSome link → 0 < length ts)
+    × (0 < length ts → IsSome link) → IsScheduleOf batch settings → All (λ t. IsSomeAnd link (λ l. Uses batch t l)) ts → AreDistinct ts → length settings
+    ≡ length ts → CertifiesBy batch settings link ts
 certificate_is batch settings None ts both s uses distinct many =
     let none : length ts ≡ 0 = elim (cases_lt 0 (length ts)) [ inl some ↦ absurd (let bad : false ≡ true = both.1 some in cc) | inr few ↦ omega arith ] in
     let empty : settings ≡ [] = nil_from_length settings (omega arith) in
@@ -171,23 +211,28 @@ certificate_is batch settings (Some link) ts both s uses distinct many = record 
 
 -- ---- the laws
 
-pub none_wrong : (batch : List Transfer) (settings : List (List ℕ)) (named : Naming) (f : CheckFault) → IsScheduleOf batch settings → IsCertificate batch settings named → IsFirstCheckFault batch settings named f → ⊥
+pub none_wrong : (batch : List Transfer) (settings : List (List ℕ)) (named : Naming) (f : CheckFault) → IsScheduleOf batch settings
+    → IsCertificate batch settings named → IsFirstCheckFault batch settings named f → ⊥
 none_wrong batch settings named (Unknown a) s c p = not_all (λ u. u < length batch) (concat settings) a p (is_known batch settings s)
 none_wrong batch settings named (Repeated a) s c p = not_distinct (concat settings) a p.1 (is_once batch settings s).distinct
 none_wrong batch settings named (Missing a) s c p = not_every (length batch) (concat settings) a p.2 (is_once batch settings s).every
 none_wrong batch settings named (Clash a b) s c p = not_matchings batch settings a b p.2 s.matchings
-none_wrong batch settings named (WrongLink a) s c p = not_all (UsesNamed batch named.link) named.transfers a p.1 (certificate_uses batch settings named.link named.transfers c)
-none_wrong batch settings named (CertificateRepeats a) s c p = not_distinct named.transfers a p.2 (certificate_distinct batch settings named.link named.transfers c)
+none_wrong batch settings named (WrongLink a) s c p = not_all (UsesNamed batch named.link) named.transfers a p.1
+    (certificate_uses batch settings named.link named.transfers c)
+none_wrong batch settings named (CertificateRepeats a) s c p =
+    not_distinct named.transfers a p.2 (certificate_distinct batch settings named.link named.transfers c)
 none_wrong batch settings named (NotTight a b) s c p = p.5 (p.3 ∙ sym (certificate_many batch settings named.link named.transfers c) ∙ sym p.4)
 none_wrong batch settings named NoMemory s c p = p
 
-pub same_fault : (batch : List Transfer) (settings : List (List ℕ)) (named : Naming) (f g : CheckFault) → IsFirstCheckFault batch settings named f → IsFirstCheckFault batch settings named g → f ≡ g
+pub same_fault : (batch : List Transfer) (settings : List (List ℕ)) (named : Naming) (f g : CheckFault) → IsFirstCheckFault batch settings named f
+    → IsFirstCheckFault batch settings named g → f ≡ g
 same_fault batch settings named (Unknown a) (Unknown x) p q = ap Unknown (same_first (λ u. u < length batch) (concat settings) a x p q)
 same_fault batch settings named (Unknown a) (Repeated x) p q = absurd (not_all (λ u. u < length batch) (concat settings) _ p q.0)
 same_fault batch settings named (Unknown a) (Missing x) p q = absurd (not_all (λ u. u < length batch) (concat settings) _ p q.0)
 same_fault batch settings named (Unknown a) (Clash x y) p q = absurd (not_all (λ u. u < length batch) (concat settings) _ p q.0)
 same_fault batch settings named (Unknown a) (WrongLink x) p q = absurd (not_all (λ u. u < length batch) (concat settings) _ p (is_known batch settings q.0))
-same_fault batch settings named (Unknown a) (CertificateRepeats x) p q = absurd (not_all (λ u. u < length batch) (concat settings) _ p (is_known batch settings q.0))
+same_fault batch settings named (Unknown a) (CertificateRepeats x) p q =
+    absurd (not_all (λ u. u < length batch) (concat settings) _ p (is_known batch settings q.0))
 same_fault batch settings named (Unknown a) (NotTight x y) p q = absurd (not_all (λ u. u < length batch) (concat settings) _ p (is_known batch settings q.0))
 same_fault batch settings named (Unknown a) NoMemory p q = absurd q
 same_fault batch settings named (Repeated a) (Unknown x) p q = absurd (not_all (λ u. u < length batch) (concat settings) _ q p.0)
@@ -203,7 +248,8 @@ same_fault batch settings named (Missing a) (Repeated x) p q = absurd (not_disti
 same_fault batch settings named (Missing a) (Missing x) p q = ap Missing (same_missing (length batch) (concat settings) a x p.2 q.2)
 same_fault batch settings named (Missing a) (Clash x y) p q = absurd (not_every (length batch) (concat settings) _ p.2 (q.1.every))
 same_fault batch settings named (Missing a) (WrongLink x) p q = absurd (not_every (length batch) (concat settings) _ p.2 ((is_once batch settings q.0).every))
-same_fault batch settings named (Missing a) (CertificateRepeats x) p q = absurd (not_every (length batch) (concat settings) _ p.2 ((is_once batch settings q.0).every))
+same_fault batch settings named (Missing a) (CertificateRepeats x) p q =
+    absurd (not_every (length batch) (concat settings) _ p.2 ((is_once batch settings q.0).every))
 same_fault batch settings named (Missing a) (NotTight x y) p q = absurd (not_every (length batch) (concat settings) _ p.2 ((is_once batch settings q.0).every))
 same_fault batch settings named (Missing a) NoMemory p q = absurd q
 same_fault batch settings named (Clash a b) (Unknown x) p q = absurd (not_all (λ u. u < length batch) (concat settings) _ q p.0)
@@ -222,9 +268,11 @@ same_fault batch settings named (WrongLink a) (WrongLink x) p q = ap WrongLink (
 same_fault batch settings named (WrongLink a) (CertificateRepeats x) p q = absurd (not_all (UsesNamed batch named.link) named.transfers _ p.1 q.1)
 same_fault batch settings named (WrongLink a) (NotTight x y) p q = absurd (not_all (UsesNamed batch named.link) named.transfers _ p.1 q.1)
 same_fault batch settings named (WrongLink a) NoMemory p q = absurd q
-same_fault batch settings named (CertificateRepeats a) (Unknown x) p q = absurd (not_all (λ u. u < length batch) (concat settings) _ q (is_known batch settings p.0))
+same_fault batch settings named (CertificateRepeats a) (Unknown x) p q =
+    absurd (not_all (λ u. u < length batch) (concat settings) _ q (is_known batch settings p.0))
 same_fault batch settings named (CertificateRepeats a) (Repeated x) p q = absurd (not_distinct (concat settings) _ q.1 ((is_once batch settings p.0).distinct))
-same_fault batch settings named (CertificateRepeats a) (Missing x) p q = absurd (not_every (length batch) (concat settings) _ q.2 ((is_once batch settings p.0).every))
+same_fault batch settings named (CertificateRepeats a) (Missing x) p q =
+    absurd (not_every (length batch) (concat settings) _ q.2 ((is_once batch settings p.0).every))
 same_fault batch settings named (CertificateRepeats a) (Clash x y) p q = absurd (not_matchings batch settings _ _ q.2 p.0.matchings)
 same_fault batch settings named (CertificateRepeats a) (WrongLink x) p q = absurd (not_all (UsesNamed batch named.link) named.transfers _ q.1 p.1)
 same_fault batch settings named (CertificateRepeats a) (CertificateRepeats x) p q = ap CertificateRepeats (same_repeated named.transfers a x p.2 q.2)
@@ -241,7 +289,8 @@ same_fault batch settings named (NotTight a b) NoMemory p q = absurd q
 same_fault batch settings named NoMemory g p q = absurd p
 
 -- where nothing is wrong, only want of memory is answered
-pub only_memory : (batch : List Transfer) (settings : List (List ℕ)) (named : Naming) (f : CheckFault) → (f ≢ NoMemory → IsFirstCheckFault batch settings named f) → IsScheduleOf batch settings → IsCertificate batch settings named → f ≡ NoMemory
+pub only_memory : (batch : List Transfer) (settings : List (List ℕ)) (named : Naming) (f : CheckFault)
+    → (f ≢ NoMemory → IsFirstCheckFault batch settings named f) → IsScheduleOf batch settings → IsCertificate batch settings named → f ≡ NoMemory
 only_memory batch settings named NoMemory first s c = refl
 only_memory batch settings named (Unknown t) first s c = absurd (none_wrong batch settings named (Unknown t) s c (first (λ e. cc)))
 only_memory batch settings named (Repeated t) first s c = absurd (none_wrong batch settings named (Repeated t) s c (first (λ e. cc)))

@@ -24,14 +24,29 @@ use Rattle.link_graph.proofs.CertificateLines.{none_line}
 -- ---- the first line
 
 begins_said : Begins AreSaid []
-begins_said = record { more = said_lines (said [] None); wanted = record { says = said [] None; can_say = record { settings_fit = record { count = omega arith; transfers = All-nil (All IsNumber) }; names_fit = tt; link_named = tt }; spelled = refl } }
+begins_said =
+    record {
+      more = said_lines (said [] None);
+      wanted =
+          record {
+            says = said [] None;
+            can_say = record {
+              settings_fit = record { count = omega arith; transfers = All-nil (All IsNumber) };
+              names_fit =
+                  tt;
+              link_named = tt;
+            };
+            spelled = refl;
+          };
+    }
 
 pub no_first_line : (text : List ℕ) → IsLine text → IsFirstBadLine text 1
 no_first_line text within = cut_short AreSaid text within begins_said (λ _ a. absurd (omega (arith, ap length a.spelled)))
 
 pub bad_first_line : (text line rest : List ℕ) → HasFirstLine text line rest → ((n : ℕ) → IsNumber n → line ≢ settings_line n) → IsFirstBadLine text 1
 bad_first_line text line rest read none =
-    bad_line AreSaid text line rest read begins_said (λ more a. none (length a.says.settings) a.can_say.settings_fit.count (ap (λ (ls : List (List ℕ)). get_or ls 0 []) a.spelled))
+    bad_line AreSaid text line rest read begins_said
+    (λ more a. none (length a.says.settings) a.can_say.settings_fit.count (ap (λ (ls : List (List ℕ)). get_or ls 0 []) a.spelled))
 
 pub one_count : (n m : ℕ) → IsNumber n → IsNumber m → settings_line n ≡ settings_line m → n ≡ m
 one_count n m fn fm same = decimal_injective n m (omega arith) (omega arith) (append_cancel_left (codes "settings ") (decimal n) (decimal m) same)
@@ -52,9 +67,11 @@ said_back count lines fits a = record {
 }
 
 -- a fault after the first line is one of the text
-pub counted_fault : (text line rest : List ℕ) (count : ℕ) (fault : ScheduleFault) → HasFirstLine text line rest → IsNumber count × (line ≡ settings_line count) → IsFaultBelow 1 (AreCounted count) rest fault → IsFaultOf text fault
+pub counted_fault : (text line rest : List ℕ) (count : ℕ) (fault : ScheduleFault) → HasFirstLine text line rest → IsNumber count × (line ≡ settings_line count)
+    → IsFaultBelow 1 (AreCounted count) rest fault → IsFaultOf text fault
 counted_fault text line rest count (Line n) read counted f =
-    rw f.1 (bad_after AreSaid (settings_line count ∷ []) text rest f.0 (All-cons IsLine (settings_line count) [] (settings_line_within count counted.0) (All-nil IsLine)) (one_read text (settings_line count) rest (headed text line rest count read.1 counted.1))
+    rw f.1 (bad_after AreSaid (settings_line count ∷ []) text rest f.0 (All-cons IsLine (settings_line count) [] (settings_line_within count counted.0)
+    (All-nil IsLine)) (one_read text (settings_line count) rest (headed text line rest count read.1 counted.1))
     (bad_same (AreCounted count) (behind (settings_line count ∷ []) AreSaid) rest f.0 (said_there count) (λ lines a. said_back count lines counted.0 a) f.2))
   where
     headed : (bytes first more : List ℕ) (n : ℕ) → bytes ≡ first ++ line_feed ∷ more → first ≡ settings_line n → bytes ≡ settings_line n ++ line_feed ∷ more
@@ -68,10 +85,14 @@ counted_fault text line rest count NoMemory read counted f = record {
 }
 
 -- and so is a fault after the settings
-pub certified_fault : (text line rest : List ℕ) (count : ℕ) (lists : List (List ℕ)) (after : List ℕ) (fault : ScheduleFault) → HasFirstLine text line rest → IsNumber count × (line ≡ settings_line count) → length lists ≡ count → All (All IsNumber) lists → rest ≡ text_of (map setting_line lists) ++ after → IsFaultBelow (count + 1) AreCertified after fault → IsFaultOf text fault
+pub certified_fault : (text line rest : List ℕ) (count : ℕ) (lists : List (List ℕ)) (after : List ℕ) (fault : ScheduleFault) → HasFirstLine text line rest
+    → IsNumber count × (line ≡ settings_line count) → length lists ≡ count → All (All IsNumber) lists → rest ≡ text_of (map setting_line lists) ++ after
+    → IsFaultBelow (count + 1) AreCertified after fault → IsFaultOf text fault
 certified_fault text line rest count lists after fault read counted long fit spelled f =
     counted_fault text line rest count fault read counted
-    (fault_after (AreCounted count) AreCertified (map setting_line lists) 1 (count + 1) rest after fault (setting_lines_within lists fit) spelled (omega (arith, length-map lists setting_line)) (λ lines a. certified_there count lists lines counted.0 long fit a) (λ lines a. certified_back count lists lines long a) f)
+    (fault_after (AreCounted count) AreCertified (map setting_line lists) 1 (count + 1) rest after fault (setting_lines_within lists fit) spelled
+    (omega (arith, length-map lists setting_line)) (λ lines a. certified_there count lists lines counted.0 long fit a)
+    (λ lines a. certified_back count lists lines long a) f)
 
 -- ---- what a text says
 
@@ -82,12 +103,16 @@ certificate_lines_within (Some named) fits = by_link named.link fits.in_rack
   where
     by_link : (link : Option Link) → IfSome link (λ l. l.«module» < MAX_MODULES) → All IsLine (naming_lines link named.transfers)
     by_link None low = All-cons IsLine none_line [] (word_lacks line_feed none_line refl) (All-nil IsLine)
-    by_link (Some link) low = All-cons IsLine (busiest_line link) (named_line named.transfers ∷ []) (busiest_line_within link low) (All-cons IsLine (named_line named.transfers) [] (named_line_within named.transfers fits.transfers) (All-nil IsLine))
+    by_link (Some link) low = All-cons IsLine (busiest_line link) (named_line named.transfers ∷ []) (busiest_line_within link low)
+        (All-cons IsLine (named_line named.transfers) [] (named_line_within named.transfers fits.transfers) (All-nil IsLine))
 
 said_lines_within : (s : CertifiedSettings) → CanSay s → All IsLine (said_lines s)
-said_lines_within s can = All-cons IsLine (settings_line (length s.settings)) (map setting_line s.settings ++ certificate_lines s.certificate) (settings_line_within (length s.settings) can.settings_fit.count) (All-append IsLine (map setting_line s.settings) (certificate_lines s.certificate) (setting_lines_within s.settings can.settings_fit.transfers) (certificate_lines_within s.certificate can.names_fit))
+said_lines_within s can = All-cons IsLine (settings_line (length s.settings)) (map setting_line s.settings ++ certificate_lines s.certificate)
+    (settings_line_within (length s.settings) can.settings_fit.count) (All-append IsLine (map setting_line s.settings) (certificate_lines s.certificate)
+    (setting_lines_within s.settings can.settings_fit.transfers) (certificate_lines_within s.certificate can.names_fit))
 
-one_settings : (a b : List (List ℕ)) (x y : List (List ℕ)) → All (All IsNumber) a → All (All IsNumber) b → length a ≡ length b → map setting_line a ++ x ≡ map setting_line b ++ y → a ≡ b
+one_settings : (a b : List (List ℕ)) (x y : List (List ℕ)) → All (All IsNumber) a → All (All IsNumber) b → length a ≡ length b → map setting_line a ++ x
+    ≡ map setting_line b ++ y → a ≡ b
 one_settings [] [] x y fa fb long same = refl
 one_settings [] (t ∷ b) x y fa fb long same = absurd (omega arith)
 one_settings (s ∷ a) [] x y fa fb long same = absurd (omega arith)
@@ -112,7 +137,8 @@ none_without : (ts : List ℕ) → (0 < length ts → IsSome {T = Link} None) �
 none_without [] some = refl
 none_without (t ∷ ts) some = let bad = some (omega arith) in absurd cc
 
-one_naming : (x y : Option Link) (ts us : List ℕ) → IfSome x (λ l. l.«module» < MAX_MODULES) → IfSome y (λ l. l.«module» < MAX_MODULES) → All IsNumber ts → All IsNumber us → (0 < length ts → IsSome x) → (0 < length us → IsSome y) → naming_lines x ts ≡ naming_lines y us → naming x ts ≡ naming y us
+one_naming : (x y : Option Link) (ts us : List ℕ) → IfSome x (λ l. l.«module» < MAX_MODULES) → IfSome y (λ l. l.«module» < MAX_MODULES) → All IsNumber ts
+    → All IsNumber us → (0 < length ts → IsSome x) → (0 < length us → IsSome y) → naming_lines x ts ≡ naming_lines y us → naming x ts ≡ naming y us
 one_naming None None ts us lx ly ft fu st su same = ap (naming None) (none_without ts st ∙ sym (none_without us su))
 one_naming None (Some m) ts us lx ly ft fu st su same = absurd (omega (arith, ap length same))
 one_naming (Some l) None ts us lx ly ft fu st su same = absurd (omega (arith, ap length same))
@@ -132,22 +158,28 @@ one_certificate : (a b : Option Naming) → CanName a → CanName b → IfSome a
 one_certificate None None fa fb ia ib same = refl
 one_certificate None (Some b) fa fb ia ib same = absurd (some_lines b (sym same))
 one_certificate (Some a) None fa fb ia ib same = absurd (some_lines a same)
-one_certificate (Some a) (Some b) fa fb ia ib same = ap Some (one_naming a.link b.link a.transfers b.transfers fa.in_rack fb.in_rack fa.transfers fb.transfers ia.both.1 ib.both.1 same)
+one_certificate (Some a) (Some b) fa fb ia ib same =
+    ap Some (one_naming a.link b.link a.transfers b.transfers fa.in_rack fb.in_rack fa.transfers fb.transfers ia.both.1 ib.both.1 same)
 
 -- a text says one thing
 pub one_said : (text : List ℕ) (a b : CertifiedSettings) → Says text a → Says text b → a ≡ b
 one_said text a b sa sb =
-    let lines : said_lines a ≡ said_lines b = one_list (said_lines a) (said_lines b) (said_lines_within a sa.can_say) (said_lines_within b sb.can_say) (sym sa.spelled ∙ sb.spelled) in
+    let lines : said_lines a ≡ said_lines b = one_list (said_lines a) (said_lines b) (said_lines_within a sa.can_say) (said_lines_within b sb.can_say)
+    (sym sa.spelled ∙ sb.spelled) in
     let count = one_count (length a.settings) (length b.settings) sa.can_say.settings_fit.count sb.can_say.settings_fit.count (first_same _ _ lines) in
-    let after_first : map setting_line a.settings ++ certificate_lines a.certificate ≡ map setting_line b.settings ++ certificate_lines b.certificate = ap (drop 1) lines in
+    let after_first : map setting_line a.settings ++ certificate_lines a.certificate ≡ map setting_line b.settings ++ certificate_lines b.certificate =
+    ap (drop 1) lines in
     let settings = one_settings a.settings b.settings _ _ sa.can_say.settings_fit.transfers sb.can_say.settings_fit.transfers count after_first in
-    let certificate = one_certificate a.certificate b.certificate sa.can_say.names_fit sb.can_say.names_fit sa.can_say.link_named sb.can_say.link_named (same_behind (map setting_line a.settings) (map setting_line b.settings) _ _ (length-map a.settings setting_line ∙ count ∙ sym (length-map b.settings setting_line)) after_first) in
+    let certificate = one_certificate a.certificate b.certificate sa.can_say.names_fit sb.can_say.names_fit sa.can_say.link_named sb.can_say.link_named
+    (same_behind (map setting_line a.settings) (map setting_line b.settings) _ _ (length-map a.settings setting_line ∙ count
+    ∙ sym (length-map b.settings setting_line)) after_first) in
     ap (λ (x : List (List ℕ)). said x a.certificate) settings ∙ ap (said b.settings) certificate
 
 -- ---- one first line at fault
 
 -- where lines go on from those before a fault, there is none
-no_fault_before : (text : List ℕ) (n : ℕ) (lines : List (List ℕ)) (other : List ℕ) (bad : IsFirstBadLine text n) → All IsLine lines → Begins AreSaid lines → text ≡ text_of lines ++ other → length bad.before < length lines → ⊥
+no_fault_before : (text : List ℕ) (n : ℕ) (lines : List (List ℕ)) (other : List ℕ) (bad : IsFirstBadLine text n) → All IsLine lines → Begins AreSaid lines
+    → text ≡ text_of lines ++ other → length bad.before < length lines → ⊥
 no_fault_before text n lines other bad within begins parts less =
     let g = goes_on bad.before lines bad.rest other bad.within_lines within (omega arith) (sym bad.parts ∙ parts) in
     by_more g.more g.list g.text
@@ -159,8 +191,13 @@ no_fault_before text n lines other bad within begins parts less =
     by_more [] list rest = omega (arith, less, ap length list, length-append bad.before [])
     by_more (line ∷ more) list rest =
         let all_within : All IsLine (bad.before ++ line ∷ more) = subst (All IsLine) list within in
-        bad.next_unwanted line (text_of more ++ other) (All-head IsLine line more (All-behind IsLine bad.before (line ∷ more) all_within)) (rest ∙ first_of line more other)
-        (record { more = more ++ begins.more; wanted = subst AreSaid (ap (λ (ls : List (List ℕ)). ls ++ begins.more) list ∙ shift bad.before line more begins.more) begins.wanted })
+        bad.next_unwanted line (text_of more ++ other) (All-head IsLine line more (All-behind IsLine bad.before (line ∷ more) all_within))
+        (rest ∙ first_of line more other)
+        (record {
+          more = more ++ begins.more;
+          wanted =
+              subst AreSaid (ap (λ (ls : List (List ℕ)). ls ++ begins.more) list ∙ shift bad.before line more begins.more) begins.wanted;
+        })
 
 pub says_or_faults : (text : List ℕ) (s : CertifiedSettings) (n : ℕ) → Says text s → IsFirstBadLine text n → ⊥
 says_or_faults text s n says bad =

@@ -70,7 +70,8 @@ most_at counts n m k best lt = ltb-false _ _ (best.1 k 0 lt)
 less_at : (counts : List ℕ) (n m k : ℕ) → IsFirstBest (λ a b. nat_lt b a) counts n m → k < m → get_or counts k 0 < get_or counts m 0
 less_at counts n m k best lt = ltb-true _ _ (best.2 k 0 lt)
 
-pub busiest_is : (counts : List ℕ) (batch : List Transfer) (m : ℕ) (link : Link) → IsGraph counts batch → IsFirstBest (λ a b. nat_lt b a) counts LINKS m → get_or counts m 0 ≢ 0 → link_index link ≡ m → link.«module» < MAX_MODULES → IsBusiest batch link
+pub busiest_is : (counts : List ℕ) (batch : List Transfer) (m : ℕ) (link : Link) → IsGraph counts batch → IsFirstBest (λ a b. nat_lt b a) counts LINKS m
+    → get_or counts m 0 ≢ 0 → link_index link ≡ m → link.«module» < MAX_MODULES → IsBusiest batch link
 busiest_is counts batch m link g best some at lt =
     let here : get_or counts m 0 ≡ uses batch link = sym (ap (λ (i : ℕ). get_or counts i 0) at) ∙ g.counted.at link lt in
     record {
@@ -88,11 +89,18 @@ busiest_is counts batch m link g best some at lt =
     }
 
 -- where no link is used, there is no transfer
-pub none_used : (counts : List ℕ) (batch : List Transfer) (m : ℕ) → IsGraph counts batch → IsFirstBest (λ a b. nat_lt b a) counts LINKS m → get_or counts m 0 ≡ 0 → batch ≡ []
+pub none_used : (counts : List ℕ) (batch : List Transfer) (m : ℕ) → IsGraph counts batch → IsFirstBest (λ a b. nat_lt b a) counts LINKS m → get_or counts m 0
+    ≡ 0 → batch ≡ []
 none_used counts [] m g best zero = refl
 none_used counts (x ∷ xs) m g best zero =
     let lt : x.initiator < MAX_MODULES = (All-head (IsWithin widest) x xs g.batch_fits.within).0.0 in
-    absurd (omega (arith, sum_by-cons (use_of (start_link x)) x xs, use_yes (start_link x) x refl, g.counted.at (start_link x) lt, most_at counts LINKS m (link_index (start_link x)) best (index_below (start_link x) lt)))
+    absurd (omega (
+      arith,
+      sum_by-cons (use_of (start_link x)) x xs,
+      use_yes (start_link x) x refl,
+      g.counted.at (start_link x) lt,
+      most_at counts LINKS m (link_index (start_link x)) best (index_below (start_link x) lt),
+    ))
 
 -- ---- counting one transfer after the other
 
@@ -103,4 +111,5 @@ pub modules_of : (batch : List Transfer) (t : ℕ) (x : Transfer) → slice_get 
 modules_of batch t x here b = subst (HasModules widest) (get_or_from_slice_get batch t x x here) (b.within t x (slice_get_within batch t x here)).0
 
 pub room_left : (counts : List ℕ) (xs : List Transfer) (limit : ℕ) → AreCounts counts xs → length xs < limit → All (λ count. count < limit) counts
-room_left counts xs limit table lt = All-weaker (λ count. count ≤ length xs) (λ count. count < limit) (λ count le. omega arith) counts (counts_few counts xs table)
+room_left counts xs limit table lt = All-weaker (λ count. count ≤ length xs) (λ count. count < limit) (λ count le. omega arith) counts
+    (counts_few counts xs table)

@@ -1,4 +1,5 @@
--- Distinct transfers that use a link are at most its uses, and a schedule has as many settings at least.
+-- Distinct transfers that use a link are at most its uses, and a schedule has as many settings at
+-- least.
 use Rattle.std.proofs.Common.{◌≡◌, ℕ, ◌≤◌, List, [], ◌∷◌, length, All, inl, inr, sym, ◌∙◌, arith}
 use Rattle.std.specs.Prelude.{sum_by}
 use Rattle.std.specs.List.{AllByRecursion}
@@ -49,11 +50,16 @@ hit_back t u = elim (eqb_tells u t) [
 
 at_most_each : (xs ys : List ℕ) → AreDistinct xs → AllByRecursion (λ u. sum_by (λ t. hit t u) xs ≤ 1) ys
 at_most_each xs [] distinct = tt
-at_most_each xs (y ∷ ys) distinct = (omega (arith, sum_same (λ t. hit t y) (λ t. hit y t) xs (λ t. hit_back t y), at_most_once xs y distinct), at_most_each xs ys distinct)
+at_most_each xs (y ∷ ys) distinct = (
+  omega (arith, sum_same (λ t. hit t y) (λ t. hit y t) xs (λ t. hit_back t y), at_most_once xs y distinct),
+  at_most_each xs ys distinct,
+)
 
 pub named_few : (batch : List Transfer) (link : Link) (named : List ℕ) → All (λ t. Uses batch t link) named → AreDistinct named → length named ≤ uses batch link
 named_few batch link named used distinct =
     let u = users_of batch link in
-    let ones = sum_ones (λ t. standings t u.users) named (each (λ t. Uses batch t link) (λ t. standings t u.users ≡ 1) (λ t is. once_from_distinct t u.users u.distinct (u.are.every t is)) named (recursion_from_All (λ t. Uses batch t link) named used)) in
+    let ones = sum_ones (λ t. standings t u.users) named
+    (each (λ t. Uses batch t link) (λ t. standings t u.users ≡ 1) (λ t is. once_from_distinct t u.users u.distinct (u.are.every t is)) named
+    (recursion_from_All (λ t. Uses batch t link) named used)) in
     let swapped = swap (λ t u. hit t u) named u.users in
     omega (arith, ones, swapped, sum_at_most (λ v. sum_by (λ t. hit t v) named) u.users (at_most_each named u.users distinct), u.count)

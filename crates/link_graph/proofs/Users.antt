@@ -31,11 +31,13 @@ is_one_of Zero m x p = inl (ap (made Zero) (sym p))
 is_one_of Three m x p = inr (ap (made Three) (sym p))
 
 -- a transfer with the link's module at the link's end uses it
-pub uses_at : (batch : List Transfer) (t : ℕ) (link : Link) (x : Transfer) → slice_get batch t ≡ Some x → module_at link.end x ≡ link.«module» → Uses batch t link
+pub uses_at : (batch : List Transfer) (t : ℕ) (link : Link) (x : Transfer) → slice_get batch t ≡ Some x → module_at link.end x ≡ link.«module»
+    → Uses batch t link
 uses_at batch t link x here p = (x, here, is_one_of link.end link.«module» x p)
 
 -- and no other does
-pub at_used : (batch : List Transfer) (t : ℕ) (link : Link) (x : Transfer) → slice_get batch t ≡ Some x → Uses batch t link → module_at link.end x ≡ link.«module»
+pub at_used : (batch : List Transfer) (t : ℕ) (link : Link) (x : Transfer) → slice_get batch t ≡ Some x → Uses batch t link → module_at link.end x
+    ≡ link.«module»
 at_used batch t link x here used =
     let same : used.0 ≡ x = some_same used.0 x (sym used.1 ∙ here) in
     let Has : Transfer → Link → Type 0 = λ y l. module_at l.end y ≡ l.«module» in
@@ -71,29 +73,40 @@ pub record UsersBelow (batch : List Transfer) (link : Link) (t : ℕ) (users : L
   pub count : length users ≡ uses (take t batch) link
 
 pub no_users : (batch : List Transfer) (link : Link) → UsersBelow batch link 0 []
-no_users batch link = record { ascending = λ i j d lt inside. absurd (omega arith); each = λ k d lt. absurd (omega arith); every = λ u lt. absurd (omega arith); count = refl }
+no_users batch link = record {
+  ascending = λ i j d lt inside. absurd (omega arith);
+  each = λ k d lt. absurd (omega arith);
+  every =
+      λ u lt. absurd (omega arith);
+  count = refl;
+}
 
 -- transfer t uses the link
-pub one_user : (batch : List Transfer) (link : Link) (t : ℕ) (users : List ℕ) → UsersBelow batch link t users → Uses batch t link → UsersBelow batch link (t + 1) (users ++ t ∷ [])
+pub one_user : (batch : List Transfer) (link : Link) (t : ℕ) (users : List ℕ) → UsersBelow batch link t users → Uses batch t link
+    → UsersBelow batch link (t + 1) (users ++ t ∷ [])
 one_user batch link t users b used =
     let inside : t < length batch = used_within batch t link used in
     let x : Transfer = used.0 in
     let at : get_or batch t x ≡ x = get_or_from_slice_get batch t x x used.1 in
     record {
       ascending = all_pairs_push (λ a c. a < c) users t b.ascending (λ k d lt. (b.each k d lt).0);
-      each = All-push (λ u. (u < t + 1) × Uses batch u link) users t (All-weaker (λ u. (u < t) × Uses batch u link) (λ u. (u < t + 1) × Uses batch u link) (λ u p. (omega (arith, p.0), p.1)) users b.each) (omega arith, used);
+      each = All-push (λ u. (u < t + 1) × Uses batch u link) users t (All-weaker (λ u. (u < t) × Uses batch u link) (λ u. (u < t + 1) × Uses batch u link)
+          (λ u p. (omega (arith, p.0), p.1)) users b.each) (omega arith, used);
       every = λ u lt is. elim (cases_lt u t) [
         | inl less ↦ Contains-append_left users (t ∷ []) u (b.every u less is)
         | inr more ↦ subst (λ (v : ℕ). Contains (users ++ t ∷ []) v) (omega arith) (Contains-push users t)
       ];
       count =
-          let more : uses (take (t + 1) batch) link ≡ uses (take t batch) link + use_of link (get_or batch t x) = ap (λ (xs : List Transfer). uses xs link) (take_more batch t x inside) ∙ uses_push (take t batch) (get_or batch t x) link in
-          let one : use_of link (get_or batch t x) ≡ 1 = use_yes link (get_or batch t x) (subst (λ (y : Transfer). module_at link.end y ≡ link.«module») (sym at) (at_used batch t link x used.1 used)) in
+          let more : uses (take (t + 1) batch) link ≡ uses (take t batch) link + use_of link (get_or batch t x) = ap (λ (xs : List Transfer). uses xs link)
+          (take_more batch t x inside) ∙ uses_push (take t batch) (get_or batch t x) link in
+          let one : use_of link (get_or batch t x) ≡ 1 =
+          use_yes link (get_or batch t x) (subst (λ (y : Transfer). module_at link.end y ≡ link.«module») (sym at) (at_used batch t link x used.1 used)) in
           omega (arith, more, one, b.count, length_push users t);
     }
 
 -- transfer t does not
-pub other_user : (batch : List Transfer) (link : Link) (t : ℕ) (users : List ℕ) → t < length batch → UsersBelow batch link t users → (Uses batch t link → ⊥) → UsersBelow batch link (t + 1) users
+pub other_user : (batch : List Transfer) (link : Link) (t : ℕ) (users : List ℕ) → t < length batch → UsersBelow batch link t users → (Uses batch t link → ⊥)
+    → UsersBelow batch link (t + 1) users
 other_user batch link t users inside b not_used =
     elim (slice_get_cases batch t).1 [
       | inl p ↦
@@ -106,15 +119,18 @@ other_user batch link t users inside b not_used =
               | inr more ↦ absurd (not_used (subst (λ (v : ℕ). Uses batch v link) (omega arith) is))
             ];
             count =
-                let more : uses (take (t + 1) batch) link ≡ uses (take t batch) link + use_of link (get_or batch t x) = ap (λ (xs : List Transfer). uses xs link) (take_more batch t x inside) ∙ uses_push (take t batch) (get_or batch t x) link in
-                let none : use_of link (get_or batch t x) ≡ 0 = use_no link (get_or batch t x) (λ e. not_used (uses_at batch t link (get_or batch t x) (slice_get-get_or batch t x inside) e)) in
+                let more : uses (take (t + 1) batch) link ≡ uses (take t batch) link + use_of link (get_or batch t x) =
+                ap (λ (xs : List Transfer). uses xs link) (take_more batch t x inside) ∙ uses_push (take t batch) (get_or batch t x) link in
+                let none : use_of link (get_or batch t x) ≡ 0 =
+                use_no link (get_or batch t x) (λ e. not_used (uses_at batch t link (get_or batch t x) (slice_get-get_or batch t x inside) e)) in
                 omega (arith, more, none, b.count);
           }
       | inr p ↦ absurd (omega (arith, p.0))
     ]
 
 -- all of them
-pub all_users : (batch : List Transfer) (link : Link) (t : ℕ) (users : List ℕ) → length batch ≤ t → UsersBelow batch link t users → AreUsers batch link users × (length users ≡ uses batch link)
+pub all_users : (batch : List Transfer) (link : Link) (t : ℕ) (users : List ℕ) → length batch ≤ t → UsersBelow batch link t users → AreUsers batch link users
+    × (length users ≡ uses batch link)
 all_users batch link t users le b = (
   record {
     ascending = b.ascending;
@@ -164,22 +180,26 @@ above_head x t xs up inside = All-contains (λ u. x < u) xs t (first_with (λ a 
 not_below : (x y : ℕ) (xs ys : List ℕ) → Ascending (y ∷ ys) → Contains (y ∷ ys) x → y ≤ x
 not_below x y xs ys up inside = elim (at_cons y x ys inside) [ inl e ↦ omega arith | inr behind ↦ omega (arith, above_head y x ys up behind) ]
 
-within_tail : (x y : ℕ) (xs ys : List ℕ) → x ≡ y → Ascending (x ∷ xs) → ((t : ℕ) → Contains (x ∷ xs) t → Contains (y ∷ ys) t) → (t : ℕ) → Contains xs t → Contains ys t
+within_tail : (x y : ℕ) (xs ys : List ℕ) → x ≡ y → Ascending (x ∷ xs) → ((t : ℕ) → Contains (x ∷ xs) t → Contains (y ∷ ys) t) → (t : ℕ) → Contains xs t
+    → Contains ys t
 within_tail x y xs ys same up sub t inside =
     elim (at_cons y t ys (sub t (in_tail x t xs inside))) [ inl e ↦ absurd (omega (arith, above_head x t xs up inside)) | inr behind ↦ behind ]
 
 -- ascending lists of the same numbers are equally long
-same_members : (xs ys : List ℕ) → Ascending xs → Ascending ys → ((t : ℕ) → Contains xs t → Contains ys t) → ((t : ℕ) → Contains ys t → Contains xs t) → length xs ≡ length ys
+same_members : (xs ys : List ℕ) → Ascending xs → Ascending ys → ((t : ℕ) → Contains xs t → Contains ys t) → ((t : ℕ) → Contains ys t → Contains xs t)
+    → length xs ≡ length ys
 same_members [] [] up_x up_y sub sup = refl
 same_members [] (y ∷ ys) up_x up_y sub sup = absurd (omega (arith, (sup y (at_head y ys)).1))
 same_members (x ∷ xs) [] up_x up_y sub sup = absurd (omega (arith, (sub x (at_head x xs)).1))
 same_members (x ∷ xs) (y ∷ ys) up_x up_y sub sup =
     let same : x ≡ y = omega (arith, not_below x y xs ys up_y (sub x (at_head x xs)), not_below y x ys xs up_x (sup y (at_head y ys))) in
-    let rest = same_members xs ys (later (λ a b. a < b) x xs up_x) (later (λ a b. a < b) y ys up_y) (within_tail x y xs ys same up_x sub) (within_tail y x ys xs (sym same) up_y sup) in
+    let rest = same_members xs ys (later (λ a b. a < b) x xs up_x) (later (λ a b. a < b) y ys up_y) (within_tail x y xs ys same up_x sub)
+    (within_tail y x ys xs (sym same) up_y sup) in
     omega (arith, rest)
 
 pub counted : (batch : List Transfer) (link : Link) (users : List ℕ) → AreUsers batch link users → length users ≡ uses batch link
 counted batch link users u =
     let some = some_users batch link (length batch) (omega arith) in
     let all = all_users batch link (length batch) some.0 (omega arith) some.1 in
-    same_members users some.0 u.ascending all.0.ascending (λ t inside. all.0.every t (All-contains (λ v. Uses batch v link) users t u.each inside)) (λ t inside. u.every t (All-contains (λ v. Uses batch v link) some.0 t all.0.each inside)) ∙ all.1
+    same_members users some.0 u.ascending all.0.ascending (λ t inside. all.0.every t (All-contains (λ v. Uses batch v link) users t u.each inside))
+    (λ t inside. u.every t (All-contains (λ v. Uses batch v link) some.0 t all.0.each inside)) ∙ all.1

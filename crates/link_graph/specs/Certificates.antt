@@ -1,6 +1,7 @@
 -- Shortest schedules, and certificates that a schedule is shortest. König 1916, the easy half: no
 -- edge colouring of a graph has fewer colours than a node has edges.
-use Rattle.std.specs.Prelude.{◌≡◌, ◌≢◌, ℕ, ◌<◌, ◌≤◌, ◌↔◌, List, [], length, All, AllPairs, Option, Some, None, IsSome, option_map}
+use Rattle.std.specs.Prelude.{◌≡◌, ◌≢◌, ℕ, ◌<◌, ◌≤◌, ◌↔◌, List, [], length, All, AllPairs, Option}
+use Rattle.std.specs.Prelude.{Some, None, IsSome, option_map}
 use Rattle.std.specs.Global.{Vec}
 use Rattle.std.specs.Option.{option_map_or}
 use Rattle.batch.specs.declared.transfer.Transfer.{Transfer}

@@ -1,11 +1,15 @@
 -- The first fault of a schedule and of what is named with it. The order of the faults is this
 -- project's choice.
-use Rattle.std.specs.Prelude.{◌≡◌, ◌≢◌, ℕ, ◌<◌, List, ◌∷◌, ◌++◌, length, take, All, Contains, Option, Some, slice_get}
+use Rattle.std.specs.Prelude.{◌≡◌, ◌≢◌, ℕ, ◌<◌, List, ◌∷◌, ◌++◌, length, take, All, Contains}
+use Rattle.std.specs.Prelude.{Option, Some, slice_get}
 use Rattle.std.specs.List.{concat}
 use Rattle.std.specs.Option.{IsSomeAnd}
 use Rattle.batch.specs.declared.transfer.Transfer.{Transfer}
 use Rattle.link_graph.specs.declared.check_fault.CheckFault.{CheckFault}
-use Rattle.link_graph.specs.declared.check_fault.CheckFault.TheVariants.{Unknown, Repeated, Missing, Clash, WrongLink, CertificateRepeats, NotTight, NoMemory}
+use Rattle.link_graph.specs.declared.check_fault.CheckFault.TheVariants.{Unknown, Repeated, Missing}
+use Rattle.link_graph.specs.declared.check_fault.CheckFault.TheVariants.{Clash, WrongLink}
+use Rattle.link_graph.specs.declared.check_fault.CheckFault.TheVariants.{CertificateRepeats}
+use Rattle.link_graph.specs.declared.check_fault.CheckFault.TheVariants.{NotTight, NoMemory}
 use Rattle.link_graph.specs.declared.link.Link.{Link}
 use Rattle.link_graph.specs.Links.{StandsBefore}
 use Rattle.link_graph.specs.Uses.{Uses, IsMatching}

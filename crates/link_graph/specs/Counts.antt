@@ -1,5 +1,6 @@
 -- How many transfers use a link: the degree of a node of the batch's bipartite multigraph.
-use Rattle.std.specs.Prelude.{ℕ, zero, suc, ◌<◌, ◌≤◌, ◌+◌, Bool, cond, List, All, AllPairs, Contains, ◌==◌, count_by}
+use Rattle.std.specs.Prelude.{ℕ, zero, suc, ◌<◌, ◌≤◌, ◌+◌, Bool, cond, List, All, AllPairs}
+use Rattle.std.specs.Prelude.{Contains, ◌==◌, count_by}
 use Rattle.batch.specs.declared.transfer.Transfer.{Transfer}
 use Rattle.link_graph.specs.declared.link.End.{End}
 use Rattle.link_graph.specs.declared.link.End.TheVariants.{Zero, Three}

@@ -31,11 +31,13 @@ OneFault =
 
 -- a text says at most one schedule with what is named
 abbrev pub OneSaid : Type 0
-OneSaid = (text : List ℕ) (one other : CertifiedSettings) → Says text one → Says text other → one ≡ other
+OneSaid = (text : List ℕ) (one other : CertifiedSettings) → Says text one → Says text other → one
+    ≡ other
 
 -- a text that says something has no first line at fault
 abbrev pub NeverBoth : Type 0
-NeverBoth = (text : List ℕ) (s : CertifiedSettings) (n : ℕ) → Says text s → IsFirstBadLine text n → ⊥
+NeverBoth = (text : List ℕ) (s : CertifiedSettings) (n : ℕ) → Says text s → IsFirstBadLine text n
+    → ⊥
 
 -- a text has at most one first line at fault
 abbrev pub OneBadLine : Type 0

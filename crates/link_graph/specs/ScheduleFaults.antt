@@ -1,6 +1,7 @@
 -- The first line at fault of a text that says no schedule, and the texts that can't be read without
 -- memory. This project's choice.
-use Rattle.std.specs.Prelude.{◌≡◌, ◌≢◌, ℕ, ◌+◌, ◌<◌, ◌⊎◌, List, [], ◌∷◌, ◌++◌, length, map, All, Option, IfSome, codes, slice_index_or}
+use Rattle.std.specs.Prelude.{◌≡◌, ◌≢◌, ℕ, ◌+◌, ◌<◌, ◌⊎◌, List, [], ◌∷◌, ◌++◌, length, map, All}
+use Rattle.std.specs.Prelude.{Option, IfSome, codes, slice_index_or}
 use Rattle.std.specs.Fmt.{decimal}
 use Rattle.batch.specs.Text.{IsNumber, space, line_feed}
 use Rattle.link_graph.specs.declared.link.End.{End}
@@ -9,7 +10,9 @@ use Rattle.link_graph.specs.declared.schedule_fault.ScheduleFault.{ScheduleFault
 use Rattle.link_graph.specs.declared.schedule_fault.ScheduleFault.TheVariants.{Line, NoMemory}
 use Rattle.link_graph.specs.Links.{IsInRack}
 use Rattle.link_graph.specs.Certificates.{Naming, IsNaming}
-use Rattle.link_graph.specs.ScheduleText.{CertifiedSettings, CanSay, CanName, said_lines, text_of, numbers, settings_line, setting_line, end_number, busiest_line, named_line, certificate_lines}
+use Rattle.link_graph.specs.ScheduleText.{CertifiedSettings, CanSay, CanName, said_lines, text_of}
+use Rattle.link_graph.specs.ScheduleText.{numbers, settings_line, setting_line, end_number}
+use Rattle.link_graph.specs.ScheduleText.{busiest_line, named_line, certificate_lines}
 
 -- bytes within one line
 abbrev pub IsLine : List ℕ → Type 0

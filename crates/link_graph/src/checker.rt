@@ -3,7 +3,8 @@ ghost use Rattle.batch.specs.Batches.{IsBatch};
 ghost use Rattle.link_graph.specs.declared.check_fault.CheckFault.TheVariants.{NoMemory};
 ghost use Rattle.link_graph.specs.Schedules.{lists_of, IsScheduleOf};
 ghost use Rattle.link_graph.specs.Certificates.{IsShortest, IsCertificate, IsCertified};
-ghost use Rattle.link_graph.specs.Checks.{AreKnown, IsWantOfMemory, IsFirstUnlessMemory, IsSettingsFault, CertifiesCount, IsNamingFault};
+ghost use Rattle.link_graph.specs.Checks.{AreKnown, IsWantOfMemory, IsFirstUnlessMemory};
+ghost use Rattle.link_graph.specs.Checks.{IsSettingsFault, CertifiesCount, IsNamingFault};
 
 use crate::certificate::Certificate;
 use crate::check_fault::CheckFault;

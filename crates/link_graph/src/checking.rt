@@ -1,6 +1,7 @@
 //! The tests of the checker, each over all of a schedule or of a certificate.
 
-ghost use Rattle.std.specs.Prelude.{◌≡◌, ◌<◌, ◌↔◌, [], length, true, false, All, IsTrue, IfSome, IfNone, position, not, nat_lt};
+ghost use Rattle.std.specs.Prelude.{◌≡◌, ◌<◌, ◌↔◌, [], length, true, false, All, IsTrue, IfSome};
+ghost use Rattle.std.specs.Prelude.{IfNone, position, not, nat_lt};
 ghost use Rattle.std.specs.List.{concat};
 ghost use Rattle.batch.specs.Batches.{IsBatch};
 ghost use Rattle.link_graph.specs.declared.link.Link.{Link};
@@ -8,7 +9,8 @@ ghost use Rattle.link_graph.specs.Uses.{IsMatching};
 ghost use Rattle.link_graph.specs.Schedules.{lists_of};
 ghost use Rattle.link_graph.specs.Certificates.{AreDistinct};
 ghost use Rattle.link_graph.specs.Tables.{AreCounts};
-ghost use Rattle.link_graph.specs.Checks.{IsFirstWithout, IsFirstRepeated, IsFirstClash, IsShared, NoneSharedBefore, UsesNamed};
+ghost use Rattle.link_graph.specs.Checks.{IsFirstWithout, IsFirstRepeated, IsFirstClash, IsShared};
+ghost use Rattle.link_graph.specs.Checks.{NoneSharedBefore, UsesNamed};
 ghost use Rattle.link_graph.specs.Marks.{AreMarks, RepeatsFirst, MarksAlso, RepeatsNone, members};
 
 use crate::counting;

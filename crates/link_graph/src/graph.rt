@@ -1,4 +1,5 @@
-ghost use Rattle.std.specs.Prelude.{◌≡◌, ◌+◌, ◌*◌, ◌<◌, ◌≤◌, ◌↔◌, [], Some, IfOk, IfSome, IsNone, length, nat_lt, slice_get, option_map};
+ghost use Rattle.std.specs.Prelude.{◌≡◌, ◌+◌, ◌*◌, ◌<◌, ◌≤◌, ◌↔◌, [], Some, IfOk, IfSome, IsNone};
+ghost use Rattle.std.specs.Prelude.{length, nat_lt, slice_get, option_map};
 ghost use Rattle.std.specs.List.{IsFirstBest};
 ghost use Rattle.batch.specs.Batches.{IsBatch};
 ghost use Rattle.link_graph.specs.Uses.{start_link, answer_link};

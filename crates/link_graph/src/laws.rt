@@ -2,7 +2,8 @@
 
 ghost use Rattle.std.specs.Prelude.{◌↔◌, IsTrue};
 ghost use Rattle.link_graph.specs.Links.{StandsBefore};
-ghost use Rattle.link_graph.specs.Laws.{CertifiedIsShortest, RightHasNoFault, OneFault, OneSaid, NeverBoth, OneBadLine};
+ghost use Rattle.link_graph.specs.Laws.{CertifiedIsShortest, RightHasNoFault, OneFault, OneSaid};
+ghost use Rattle.link_graph.specs.Laws.{NeverBoth, OneBadLine};
 
 use crate::link::Link;
 

@@ -2,8 +2,8 @@
 //!
 //! Seen as a graph, a batch has the links of the modules as its nodes and the transfers as its
 //! edges: each joins link 0 of its initiator to link 3 of its responder (`Uses` of
-//! `specs/Uses.antt`). Links have an order (`laws::link_order`). A [`LinkGraph`] tells how many transfers use a link, and which link is
-//! busiest (`specs/Counts.antt`).
+//! `specs/Uses.antt`). Links have an order (`laws::link_order`). A [`LinkGraph`] tells how many
+//! transfers use a link, and which link is busiest (`specs/Counts.antt`).
 //!
 //! [`check_schedule`] answers Ok exactly where the settings are a schedule of the batch with a
 //! certificate (`IsScheduleOf`, `IsCertificate`), lack of memory aside. Then no schedule is shorter
@@ -23,6 +23,7 @@ mod graph;
 pub mod laws;
 mod limits;
 mod link;
+mod mask;
 mod numbers;
 mod reading;
 mod schedule;
@@ -36,6 +37,7 @@ pub use checker::{Shortest, check_schedule};
 pub use graph::LinkGraph;
 pub use limits::LINKS;
 pub use link::{End, Link};
+pub use mask::{Masks, has_module, lowest};
 pub use schedule::Schedule;
 pub use schedule_fault::ScheduleFault;
 pub use settings::SettingsIter;

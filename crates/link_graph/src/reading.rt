@@ -1,13 +1,19 @@
 //! The parts of a schedule text, read from the left.
 
-ghost use Rattle.std.specs.Prelude.{◌≡◌, ◌≢◌, ℕ, ◌<◌, ◌+◌, ◌^◌, [], ◌∷◌, ◌++◌, All, IfSome, IfNone, IfOk, IfErr, length, Some};
+ghost use Rattle.std.specs.Prelude.{◌≡◌, ◌≢◌, ℕ, ◌<◌, ◌+◌, ◌^◌, [], ◌∷◌, ◌++◌, All, IfSome, IfNone};
+ghost use Rattle.std.specs.Prelude.{IfOk, IfErr, length, Some};
 ghost use Rattle.std.specs.Fmt.{decimal};
 ghost use Rattle.batch.specs.Text.{IsNumber};
 ghost use Rattle.link_graph.specs.Links.{IsInRack};
 ghost use Rattle.link_graph.specs.Schedules.{lists_of};
 ghost use Rattle.link_graph.specs.Certificates.{IsNaming};
-ghost use Rattle.link_graph.specs.ScheduleText.{text_of, text_of_settings, settings_line, end_number, module_words, busiest_line, named_line, certificate_lines, CanName};
-ghost use Rattle.link_graph.specs.ScheduleFaults.{IsLine, IsLineFault, IsFaultBelow, AreCounted, AreCertified, AreNamed, HasFirstLine, HasFirstNumber, AreNoNumbers, IsWordWithNumbers, HasNoFirstEnd, NamesNoLink};
+ghost use Rattle.link_graph.specs.ScheduleText.{text_of, text_of_settings, settings_line};
+ghost use Rattle.link_graph.specs.ScheduleText.{end_number, module_words, busiest_line, named_line};
+ghost use Rattle.link_graph.specs.ScheduleText.{certificate_lines, CanName};
+ghost use Rattle.link_graph.specs.ScheduleFaults.{IsLine, IsLineFault, IsFaultBelow, AreCounted};
+ghost use Rattle.link_graph.specs.ScheduleFaults.{AreCertified, AreNamed, HasFirstLine};
+ghost use Rattle.link_graph.specs.ScheduleFaults.{HasFirstNumber, AreNoNumbers, IsWordWithNumbers};
+ghost use Rattle.link_graph.specs.ScheduleFaults.{HasNoFirstEnd, NamesNoLink};
 
 use crate::certificate::Certificate;
 use crate::link::{End, Link};

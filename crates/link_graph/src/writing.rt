@@ -2,7 +2,8 @@
 
 ghost use Rattle.std.specs.Prelude.{◌≡◌, ◌++◌, [], ◌∷◌, OnOk, IfOk};
 ghost use Rattle.link_graph.specs.Schedules.{lists_of};
-ghost use Rattle.link_graph.specs.ScheduleText.{numbers, schedule_text, busiest_line, naming_lines, GrowsBy};
+ghost use Rattle.link_graph.specs.ScheduleText.{numbers, schedule_text, busiest_line, naming_lines};
+ghost use Rattle.link_graph.specs.ScheduleText.{GrowsBy};
 
 use crate::link::Link;
 use crate::numbers::push_number;

@@ -26,12 +26,15 @@ pub length-joined : (s : Store) (bays : List BlockAt) → length (store_rejoined
 length-joined s [] = refl
 length-joined s (b ∷ bays) = length-joined (set_block s b.place b.words) bays ∙ length-set s.blocks _ _
 
-off_more : (s : ShapeView) (b : BlockAt) (bays : List BlockAt) (p : Place) → (place_index s b.place ≡ place_index s p → ⊥) → IsOff s (places_of bays) p → (k : ℕ) → k < length (b.place ∷ places_of bays) → place_index s (get_or (b.place ∷ places_of bays) k (record { «module» = 0; block = 0 })) ≢ place_index s p
+off_more : (s : ShapeView) (b : BlockAt) (bays : List BlockAt) (p : Place) → (place_index s b.place ≡ place_index s p → ⊥) → IsOff s (places_of bays) p
+    → (k : ℕ) → k < length (b.place ∷ places_of bays) → place_index s (get_or (b.place ∷ places_of bays) k (record { «module» = 0; block = 0 })) ≢ place_index s
+    p
 off_more s b bays p n o zero l = n
 off_more s b bays p n o (suc k) l = o k (omega arith)
 
 -- a bay at this index, or none
-find_bay : (s : ShapeView) (bays : List BlockAt) (p : Place) → ((k : ℕ) × (k < length bays) × (place_index s (bay_in bays k).place ≡ place_index s p)) ⊎ IsOff s (places_of bays) p
+find_bay : (s : ShapeView) (bays : List BlockAt) (p : Place) → ((k : ℕ) × (k < length bays) × (place_index s (bay_in bays k).place ≡ place_index s p))
+    ⊎ IsOff s (places_of bays) p
 find_bay s [] p = inr (λ k l. absurd (omega arith))
 find_bay s (b ∷ bays) p =
     elim (cases_eq (place_index s b.place) (place_index s p)) [
@@ -56,7 +59,8 @@ record Moves (find : Place → List ℕ) (opening rest : Store) (bays new : List
   others : (k : ℕ) → k < length bays → (k < first) ⊎ (first + length ts ≤ k) → (bay_in new k).words ≡ (bay_in bays k).words
 
 -- bays that stand where they stood have the same places
-places_same : (bays new : List BlockAt) → length new ≡ length bays → ((k : ℕ) → k < length bays → (bay_in new k).place ≡ (bay_in bays k).place) → places_of new ≡ places_of bays
+places_same : (bays new : List BlockAt) → length new ≡ length bays → ((k : ℕ) → k < length bays → (bay_in new k).place ≡ (bay_in bays k).place) → places_of new
+    ≡ places_of bays
 places_same bays new e h =
     same_lists (places_of new) (places_of bays) (omega (arith, length-map new (λ (b : BlockAt). b.place), length-map bays (λ (b : BlockAt). b.place)))
     (λ k d l.
@@ -64,11 +68,14 @@ places_same bays new e h =
     get_or-map (λ (b : BlockAt). b.place) new k _ d (omega arith) ∙ h k below ∙ sym (get_or-map (λ (b : BlockAt). b.place) bays k _ d below))
 
 -- the block of a bay, in the store of the rest and the bays
-at_bay : (rest : Store) (bays : List BlockAt) (k : ℕ) → IsOnce rest.shape (places_of bays) → length rest.blocks ≡ rest.shape.modules * rest.shape.blocks → k < length bays → HasPlace rest.shape (bay_in bays k).place → block_of (store_rejoined rest bays) (bay_in bays k).place ≡ (bay_in bays k).words
+at_bay : (rest : Store) (bays : List BlockAt) (k : ℕ) → IsOnce rest.shape (places_of bays) → length rest.blocks ≡ rest.shape.modules * rest.shape.blocks
+    → k < length bays → HasPlace rest.shape (bay_in bays k).place → block_of (store_rejoined rest bays) (bay_in bays k).place ≡ (bay_in bays k).words
 at_bay rest bays k once all l hp = block_of-joined_bay rest bays k once l (omega (arith, place_index_below rest.shape (bay_in bays k).place hp))
 
 -- a block that is no destination of the setting
-other_block : (find : Place → List ℕ) (opening rest : Store) (bays new : List BlockAt) (first : ℕ) (ts : List Transfer) (moved : ℕ → ℕ) → Moves find opening rest bays new first ts moved → (p : Place) → HasPlace (store_rejoined rest bays).shape p → ((i : ℕ) → i < length ts → destination_at ts i ≢ p)
+other_block : (find : Place → List ℕ) (opening rest : Store) (bays new : List BlockAt) (first : ℕ) (ts : List Transfer) (moved : ℕ → ℕ)
+    → Moves find opening rest bays new first ts moved → (p : Place) → HasPlace (store_rejoined rest bays).shape p
+    → ((i : ℕ) → i < length ts → destination_at ts i ≢ p)
     → ((k : ℕ) × (k < length bays) × (place_index rest.shape (bay_in bays k).place ≡ place_index rest.shape p)) ⊎ IsOff rest.shape (places_of bays) p
     → ((k : ℕ) → k < length bays → block_of (store_rejoined rest bays) (bay_in bays k).place ≡ (bay_in bays k).words)
     → ((k : ℕ) → k < length bays → block_of (store_rejoined rest new) (bay_in bays k).place ≡ (bay_in new k).words)
@@ -78,22 +85,27 @@ other_block find opening rest bays new first ts moved h p hp none (inr off) old_
     block_of-joined_off rest new p (subst (λ (ps : List Place). IsOff rest.shape ps p) (sym places) off) ∙ sym (block_of-joined_off rest bays p off)
 other_block find opening rest bays new first ts moved h p hp none (inl f) old_bay new_bay places =
     let k = f.0 in
-    let at : (bay_in bays k).place ≡ p = same_place_from_index rest.shape (bay_in bays k).place p (h.exist k f.1) (subst (λ (x : ShapeView). HasPlace x p) (shape-joined rest bays) hp) f.2 in
+    let at : (bay_in bays k).place ≡ p = same_place_from_index rest.shape (bay_in bays k).place p (h.exist k f.1)
+    (subst (λ (x : ShapeView). HasPlace x p) (shape-joined rest bays) hp) f.2 in
     let out : (k < first) ⊎ (first + length ts ≤ k) = elim (cases_lt k first) [
       | inl l ↦ inl l
       | inr l ↦ elim (cases_lt k (first + length ts)) [
-        | inl m ↦ absurd (none (k - first) (omega arith) (h.destinations (k - first) (omega arith) ∙ (ap (λ (n : ℕ). (bay_in bays n).place) (omega arith) ∙ at)))
+        | inl m ↦ absurd
+            (none (k - first) (omega arith) (h.destinations (k - first) (omega arith) ∙ (ap (λ (n : ℕ). (bay_in bays n).place) (omega arith) ∙ at)))
         | inr m ↦ inr m
       ]
     ] in
-    subst (λ (q : Place). block_of (store_rejoined rest new) q ≡ block_of (store_rejoined rest bays) q) at (new_bay k f.1 ∙ h.others k f.1 out ∙ sym (old_bay k f.1))
+    subst (λ (q : Place). block_of (store_rejoined rest new) q ≡ block_of (store_rejoined rest bays) q)
+    at (new_bay k f.1 ∙ h.others k f.1 out ∙ sym (old_bay k f.1))
 
-setting_moved : (find : Place → List ℕ) (opening rest : Store) (bays new : List BlockAt) (first : ℕ) (ts : List Transfer) (moved : ℕ → ℕ) → Moves find opening rest bays new first ts moved → IsMovedFrom opening (store_rejoined rest bays) ts moved (store_rejoined rest new)
+setting_moved : (find : Place → List ℕ) (opening rest : Store) (bays new : List BlockAt) (first : ℕ) (ts : List Transfer) (moved : ℕ → ℕ)
+    → Moves find opening rest bays new first ts moved → IsMovedFrom opening (store_rejoined rest bays) ts moved (store_rejoined rest new)
 setting_moved find opening rest bays new first ts moved h =
     let places = places_same bays new h.same_length h.same_places in
     let once_new : IsOnce rest.shape (places_of new) = subst (IsOnce rest.shape) (sym places) h.once in
     let old_bay = λ (k : ℕ) (l : k < length bays). at_bay rest bays k h.once h.all_blocks l (h.exist k l) in
-    let new_bay = λ (k : ℕ) (l : k < length bays). ap (block_of (store_rejoined rest new)) (sym (h.same_places k l)) ∙ at_bay rest new k once_new h.all_blocks (omega (arith, h.same_length)) (subst (HasPlace rest.shape) (sym (h.same_places k l)) (h.exist k l)) in
+    let new_bay = λ (k : ℕ) (l : k < length bays). ap (block_of (store_rejoined rest new)) (sym (h.same_places k l)) ∙ at_bay rest new k once_new h.all_blocks
+    (omega (arith, h.same_length)) (subst (HasPlace rest.shape) (sym (h.same_places k l)) (h.exist k l)) in
     record {
       same_shape = shape-joined rest new ∙ sym (shape-joined rest bays);
       same_length = length-joined rest new ∙ sym (length-joined rest bays);
@@ -121,13 +133,15 @@ once_of rest bays h = IsOnce-from_lendable rest.shape (places_of bays) h.lendabl
 exist_of : (rest : Store) (bays : List BlockAt) → AreLent rest bays → (k : ℕ) → k < length bays → HasPlace rest.shape (bay_in bays k).place
 exist_of rest bays h k l = subst (HasPlace rest.shape) (place_in-places_of bays k l) (h.lendable.exist k (omega (arith, length-places_of bays)))
 
-off_of : (rest : Store) (bays : List BlockAt) (p : Place) → AreLent rest bays → HasPlace rest.shape p → ((k : ℕ) → k < length bays → (bay_in bays k).place ≢ p) → IsOff rest.shape (places_of bays) p
+off_of : (rest : Store) (bays : List BlockAt) (p : Place) → AreLent rest bays → HasPlace rest.shape p → ((k : ℕ) → k < length bays → (bay_in bays k).place ≢ p)
+    → IsOff rest.shape (places_of bays) p
 off_of rest bays p h hp other = λ k l e.
     let below : k < length bays = omega (arith, length-places_of bays) in
     let at = place_in-places_of bays k below in
     other k below (same_place_from_index rest.shape (bay_in bays k).place p (exist_of rest bays h k below) hp (ap (place_index rest.shape) (sym at) ∙ e))
 
-room_of : (rest : Store) (bays : List BlockAt) → AreLent rest bays → (k : ℕ) → k < length bays → place_index rest.shape (bay_in bays k).place < length rest.blocks
+room_of : (rest : Store) (bays : List BlockAt) → AreLent rest bays → (k : ℕ) → k < length bays → place_index rest.shape (bay_in bays k).place < length
+    rest.blocks
 room_of rest bays h k l = omega (arith, h.all_blocks, place_index_below rest.shape (bay_in bays k).place (exist_of rest bays h k l))
 
 pub lent_block : LentBlockIsItsBay
@@ -138,7 +152,8 @@ other_rest rest bays p h hp other = block_of-joined_off rest bays p (off_of rest
 
 pub lent_block_gone : LentBlockIsGone
 lent_block_gone s places i h lendable l =
-    block_of-without_lent s places i (IsOnce-from_lendable s.shape places lendable) l (omega (arith, h.all_blocks, place_index_below s.shape (place_in places i) (lendable.exist i l)))
+    block_of-without_lent s places i (IsOnce-from_lendable s.shape places lendable) l
+    (omega (arith, h.all_blocks, place_index_below s.shape (place_in places i) (lendable.exist i l)))
 
 pub set_one_word : SetIsOneWord
 set_one_word rest bays k j w h l = joined-set_word rest bays k j w (once_of rest bays h) l (room_of rest bays h k l)
@@ -172,17 +187,22 @@ stay_lent rest old new first ts h s = record {
 }
 
 -- the words of a block, in a store of bays and in another
-same_width : (rest : Store) (old new : List BlockAt) → AreLent rest old → AreSamePlaces old new → ((k : ℕ) → k < length old → length (bay_in new k).words ≡ length (bay_in old k).words) → (p : Place) → HasPlace rest.shape p → length (block_of (store_rejoined rest new) p) ≡ length (block_of (store_rejoined rest old) p)
+same_width : (rest : Store) (old new : List BlockAt) → AreLent rest old → AreSamePlaces old new
+    → ((k : ℕ) → k < length old → length (bay_in new k).words ≡ length (bay_in old k).words) → (p : Place) → HasPlace rest.shape p
+    → length (block_of (store_rejoined rest new) p) ≡ length (block_of (store_rejoined rest old) p)
 same_width rest old new h s w p hp =
     let places = places_same old new s.same_length s.same_places in
     elim (find_bay rest.shape old p) [
       | inl f ↦
           let k = f.0 in
           let at : (bay_in old k).place ≡ p = same_place_from_index rest.shape (bay_in old k).place p (exist_of rest old h k f.1) hp f.2 in
-          let before : block_of (store_rejoined rest old) p ≡ (bay_in old k).words = ap (block_of (store_rejoined rest old)) (sym at) ∙ lent_block rest old k h f.1 in
-          let after : block_of (store_rejoined rest new) p ≡ (bay_in new k).words = ap (block_of (store_rejoined rest new)) (sym at ∙ sym (s.same_places k f.1)) ∙ lent_block rest new k (lent_still rest old new h s) (omega (arith, f.1, s.same_length)) in
+          let before : block_of (store_rejoined rest old) p ≡ (bay_in old k).words = ap (block_of (store_rejoined rest old)) (sym at)
+          ∙ lent_block rest old k h f.1 in
+          let after : block_of (store_rejoined rest new) p ≡ (bay_in new k).words = ap (block_of (store_rejoined rest new)) (sym at ∙ sym (s.same_places k f.1))
+          ∙ lent_block rest new k (lent_still rest old new h s) (omega (arith, f.1, s.same_length)) in
           ap (λ (x : List ℕ). length x) after ∙ w k f.1 ∙ ap (λ (x : List ℕ). length x) (sym before)
-      | inr off ↦ ap (λ (x : List ℕ). length x) (block_of-joined_off rest new p (subst (λ (ps : List Place). IsOff rest.shape ps p) (sym places) off) ∙ sym (block_of-joined_off rest old p off))
+      | inr off ↦ ap (λ (x : List ℕ). length x) (block_of-joined_off rest new p (subst (λ (ps : List Place). IsOff rest.shape ps p) (sym places) off)
+          ∙ sym (block_of-joined_off rest old p off))
     ]
 
 pub stay_whole : BaysStayWhole
@@ -190,7 +210,8 @@ stay_whole rest old new h s w r = record {
   exist = λ k d l.
       let below : k < length old = omega (arith, s.same_length) in
       let found : get_or new k d ≡ bay_in new k = get_or_default new k d _ l in
-      subst (λ (b : BlockAt). HasPlace rest.shape b.place) (sym found) (subst (HasPlace rest.shape) (sym (s.same_places k below)) (exist_of rest old h k below));
+      subst (λ (b : BlockAt). HasPlace rest.shape b.place) (sym found)
+      (subst (HasPlace rest.shape) (sym (s.same_places k below)) (exist_of rest old h k below));
   whole = record {
     within = subst IsShape (shape-joined rest old ∙ sym (shape-joined rest new)) r.whole.within;
     all_blocks = length-joined rest new ∙ (h.all_blocks ∙ ap (λ (x : ShapeView). x.modules * x.blocks) (sym (shape-joined rest new)));
@@ -214,5 +235,6 @@ bays_are_wide rest bays first ts i h r l =
     let q = (bay_in bays k).place in
     let whole = store_rejoined rest bays in
     let wide = λ (x : Place) (hp : HasPlace rest.shape x).
-    block_length whole x r.whole (subst (λ (e : ShapeView). HasPlace e x) (sym (shape-joined rest bays)) hp) ∙ ap (λ (e : ShapeView). e.words) (shape-joined rest bays) in
+    block_length whole x r.whole (subst (λ (e : ShapeView). HasPlace e x) (sym (shape-joined rest bays)) hp)
+    ∙ ap (λ (e : ShapeView). e.words) (shape-joined rest bays) in
     ap (λ (x : List ℕ). length x) (sym (lent_block rest bays k h.lent below)) ∙ wide q (exist_of rest bays h.lent k below)

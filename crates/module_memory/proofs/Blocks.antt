@@ -12,7 +12,8 @@ use Rattle.module_memory.specs.Store.{Store, HasAllBlocks, IsWhole, block_of, se
 pub block_of-set_same : (s : Store) (p : Place) (ws : List ℕ) → place_index s.shape p < length s.blocks → block_of (set_block s p ws) p ≡ ws
 block_of-set_same s p ws h = get_or-set_same s.blocks (place_index s.shape p) ws [] h
 
-pub block_of-set_other : (s : Store) (p q : Place) (ws : List ℕ) → HasPlace s.shape p → HasPlace s.shape q → q ≢ p → block_of (set_block s p ws) q ≡ block_of s q
+pub block_of-set_other : (s : Store) (p q : Place) (ws : List ℕ) → HasPlace s.shape p → HasPlace s.shape q → q ≢ p → block_of (set_block s p ws) q
+    ≡ block_of s q
 block_of-set_other s p q ws hp hq n =
     get_or-set_other s.blocks (place_index s.shape p) (place_index s.shape q) ws [] (λ e. n (same_place_from_index s.shape q p hq hp e))
 
@@ -31,7 +32,8 @@ store_from_parts a b e f =
 pub all_blocks : (s : Store) → IsWhole s → HasAllBlocks s
 all_blocks s whole = (whole.within, whole.all_blocks)
 
-pub same_store : (old a b : Store) → HasAllBlocks old → a.shape ≡ old.shape → b.shape ≡ old.shape → length a.blocks ≡ length old.blocks → length b.blocks ≡ length old.blocks
+pub same_store : (old a b : Store) → HasAllBlocks old → a.shape ≡ old.shape → b.shape ≡ old.shape → length a.blocks ≡ length old.blocks → length b.blocks
+    ≡ length old.blocks
     → ((p : Place) → HasPlace old.shape p → block_of a p ≡ block_of b p) → a ≡ b
 same_store old a b all ea eb la lb same =
     store_from_parts a b (ea ∙ sym eb) (ext_get_or [] a.blocks b.blocks (la ∙ sym lb) (λ k l.
@@ -45,10 +47,12 @@ block_length s p h hp =
     h.all_words (place_index s.shape p) (subst (λ n. place_index s.shape p < n) (sym h.all_blocks) (place_index_below s.shape p hp))
 
 -- a write of whole words leaves whole words
-set_words : (s : Store) (k : ℕ) (ws : List ℕ) → IsWhole s → length ws ≡ s.shape.words → (j : ℕ) → j < length s.blocks → length (get_or (set s.blocks k ws) j []) ≡ s.shape.words
+set_words : (s : Store) (k : ℕ) (ws : List ℕ) → IsWhole s → length ws ≡ s.shape.words → (j : ℕ) → j < length s.blocks → length (get_or (set s.blocks k ws) j [])
+    ≡ s.shape.words
 set_words s k ws h e j l =
     elim (cases_eq j k) [
-      | inl g ↦ subst (λ (x : ℕ). length (get_or (set s.blocks x ws) j []) ≡ s.shape.words) g (ap (λ (x : List ℕ). length x) (get_or-set_same s.blocks j ws [] l) ∙ e)
+      | inl g ↦ subst (λ (x : ℕ). length (get_or (set s.blocks x ws) j []) ≡ s.shape.words) g
+          (ap (λ (x : List ℕ). length x) (get_or-set_same s.blocks j ws [] l) ∙ e)
       | inr n ↦ ap (λ (x : List ℕ). length x) (get_or-set_other s.blocks k j ws [] n) ∙ h.all_words j l
     ]
 

@@ -8,7 +8,8 @@ use Rattle.module_memory.specs.Store.{Store, IsWhole, block_of}
 use Rattle.module_memory.specs.Lending.{place_in, copy_in, AreCopies, AreWholeCopies}
 use Rattle.module_memory.proofs.Blocks.{same_or_not, block_length}
 
-none_more : (q : Place) (held : List Place) (p : Place) → q ≢ p → ((i : ℕ) → i < length held → place_in held i ≢ p) → (i : ℕ) → i < length (q ∷ held) → place_in (q ∷ held) i ≢ p
+none_more : (q : Place) (held : List Place) (p : Place) → q ≢ p → ((i : ℕ) → i < length held → place_in held i ≢ p) → (i : ℕ) → i < length (q ∷ held)
+    → place_in (q ∷ held) i ≢ p
 none_more q held p n m zero l = n
 none_more q held p n m (suc i) l = m i (omega arith)
 
@@ -30,10 +31,13 @@ pub record AreCopiesUpTo (s : Store) (held : List Place) (n : ℕ) (copies : Lis
   pub copied : (k : ℕ) → k < n → copy_in s.shape copies (place_in held k) ≡ block_of s (place_in held k)
   pub others : (p : Place) → HasPlace s.shape p → ((k : ℕ) → k < n → place_in held k ≢ p) → copy_in s.shape copies p ≡ []
 
-pub copies_more : (s : Store) (held : List Place) (n index : ℕ) (copies : List (List ℕ)) → IsWhole s → (p : Place) → p ≡ place_in held n → HasPlace s.shape p → ((k : ℕ) → k < n → HasPlace s.shape (place_in held k)) → index ≡ place_index s.shape p → AreCopiesUpTo s held n copies → AreCopiesUpTo s held (n + 1) (set copies index (block_of s p))
+pub copies_more : (s : Store) (held : List Place) (n index : ℕ) (copies : List (List ℕ)) → IsWhole s → (p : Place) → p ≡ place_in held n → HasPlace s.shape p
+    → ((k : ℕ) → k < n → HasPlace s.shape (place_in held k)) → index ≡ place_index s.shape p → AreCopiesUpTo s held n copies
+    → AreCopiesUpTo s held (n + 1) (set copies index (block_of s p))
 copies_more s held n index copies whole p at hp before e h =
     let here : copy_in s.shape (set copies index (block_of s p)) p ≡ block_of s p =
-    ap (λ (x : ℕ). get_or (set copies index (block_of s p)) x []) (sym e) ∙ get_or-set_same copies index (block_of s p) [] (omega (arith, h.size, whole.all_blocks, place_index_below s.shape p hp)) in
+    ap (λ (x : ℕ). get_or (set copies index (block_of s p)) x []) (sym e) ∙ get_or-set_same copies index (block_of s p) []
+    (omega (arith, h.size, whole.all_blocks, place_index_below s.shape p hp)) in
     let other : (q : Place) → HasPlace s.shape q → p ≢ q → copy_in s.shape (set copies index (block_of s p)) q ≡ copy_in s.shape copies q =
     λ q hq n'. get_or-set_other copies index (place_index s.shape q) (block_of s p) [] (λ f. n' (same_place_from_index s.shape p q hp hq (sym e ∙ sym f))) in
     record {

@@ -1,4 +1,5 @@
-use Rattle.std.proofs.Common.{zero, suc, Bool, eq-eqb, ne_eqb, ℕ, ◌≡◌, ◌≢◌, ◌≤◌, ◌<◌, ◌+◌, ◌==◌, cond, List, [], ◌∷◌, ◌++◌, length, map, take, drop, get_or, set, slice_index, refl, sym, ap, ap₂, ◌∙◌, subst, arith, length-set, get_or-set_same, get_or-set_other, ◌⊎◌, inl, inr, All, append_assoc, length-take-le, take_all}
+use Rattle.std.proofs.Common.{zero, suc, Bool, eq-eqb, ne_eqb, ℕ, ◌≡◌, ◌≢◌, ◌≤◌, ◌<◌, ◌+◌, ◌==◌, cond, List, [], ◌∷◌, ◌++◌, length, map, take, drop, get_or, set, slice_index, refl, sym, ap, ap₂, ◌∙◌}
+use Rattle.std.proofs.Common.{subst, arith, length-set, get_or-set_same, get_or-set_other, ◌⊎◌, inl, inr, All, append_assoc, length-take-le, take_all}
 use Rattle.std.proofs.lemmas.List.{drop_more, take_more, set_at, get_or-map, length-map, drop_all, append-nil}
 use Rattle.std.proofs.lemmas.List.Sums.{sum_by-cons}
 use Rattle.std.proofs.lemmas.Bool.{cases_eq, cases_lt}
@@ -47,11 +48,13 @@ distinct_from_apart ts h i j hi hj n e =
       ]
     ]
 
-none_of : (t : Transfer) (ts : List Transfer) (p : Place) → destination_of t ≢ p → ((i : ℕ) → i < length ts → destination_at ts i ≢ p) → (i : ℕ) → i < length (t ∷ ts) → destination_of (transfer_at (t ∷ ts) i) ≢ p
+none_of : (t : Transfer) (ts : List Transfer) (p : Place) → destination_of t ≢ p → ((i : ℕ) → i < length ts → destination_at ts i ≢ p) → (i : ℕ)
+    → i < length (t ∷ ts) → destination_of (transfer_at (t ∷ ts) i) ≢ p
 none_of t ts p n m zero h = n
 none_of t ts p n m (suc i) h = m i (omega arith)
 
-pub find_destination : (ts : List Transfer) (p : Place) → ((i : ℕ) × (i < length ts) × (destination_at ts i ≡ p)) ⊎ ((i : ℕ) → i < length ts → destination_at ts i ≢ p)
+pub find_destination : (ts : List Transfer) (p : Place) → ((i : ℕ) × (i < length ts) × (destination_at ts i ≡ p))
+    ⊎ ((i : ℕ) → i < length ts → destination_at ts i ≢ p)
 find_destination [] p = inr (λ i h e. absurd (omega arith))
 find_destination (t ∷ ts) p =
     elim (same_or_not (destination_of t) p) [
@@ -63,16 +66,19 @@ find_destination (t ∷ ts) p =
     ]
 
 -- the transfer at a place of a setting
-pub transfer_at-setting_of : (batch : List Transfer) (numbers : List ℕ) (i : ℕ) → i < length numbers → transfer_at (setting_of batch numbers) i ≡ transfer_at batch (slice_index numbers i)
+pub transfer_at-setting_of : (batch : List Transfer) (numbers : List ℕ) (i : ℕ) → i < length numbers → transfer_at (setting_of batch numbers) i
+    ≡ transfer_at batch (slice_index numbers i)
 transfer_at-setting_of batch numbers i h = get_or-map (transfer_at batch) numbers i 0 _ h
 
-setting_distinct : (opening s : Store) (batch : List Transfer) (numbers : List ℕ) → IsReady opening s batch numbers → (i j : ℕ) → i < length (setting_of batch numbers) → j < length (setting_of batch numbers) → i ≢ j
+setting_distinct : (opening s : Store) (batch : List Transfer) (numbers : List ℕ) → IsReady opening s batch numbers → (i j : ℕ)
+    → i < length (setting_of batch numbers) → j < length (setting_of batch numbers) → i ≢ j
     → destination_at (setting_of batch numbers) i ≢ destination_at (setting_of batch numbers) j
 setting_distinct opening s batch numbers r i j h k n e =
     let short : length (setting_of batch numbers) ≡ length numbers = length-map numbers (transfer_at batch) in
     let hi : i < length numbers = omega arith in
     let hj : j < length numbers = omega arith in
-    distinct_from_apart batch r.apart (slice_index numbers i) (slice_index numbers j) (r.setting.known i 0 hi) (r.setting.known j 0 hj) (λ f. n (r.setting.distinct i j hi hj f))
+    distinct_from_apart batch r.apart (slice_index numbers i) (slice_index numbers j) (r.setting.known i 0 hi) (r.setting.known j 0 hj)
+    (λ f. n (r.setting.distinct i j hi hj f))
     (ap destination_of (sym (transfer_at-setting_of batch numbers i hi)) ∙ e ∙ ap destination_of (transfer_at-setting_of batch numbers j hj))
 
 setting_fits : (opening s : Store) (batch : List Transfer) (numbers : List ℕ) → IsReady opening s batch numbers → FitsIn s.shape (setting_of batch numbers)
@@ -84,21 +90,26 @@ setting_fits opening s batch numbers r i h =
     (r.places (slice_index numbers i) (r.setting.known i 0 hi))
 
 -- what the batch doesn't write, a setting of it doesn't
-pub unwritten_by_setting : (batch : List Transfer) (numbers : List ℕ) (p : Place) → IsSetting batch numbers → IsUnwritten batch p → IsUnwritten (setting_of batch numbers) p
+pub unwritten_by_setting : (batch : List Transfer) (numbers : List ℕ) (p : Place) → IsSetting batch numbers → IsUnwritten batch p
+    → IsUnwritten (setting_of batch numbers) p
 unwritten_by_setting batch numbers p known none k l e =
     let below : k < length numbers = omega (arith, length-map numbers (transfer_at batch)) in
     none (slice_index numbers k) (known.known k 0 below) (ap destination_of (sym (transfer_at-setting_of batch numbers k below)) ∙ e)
 
 -- a source has the words that it had in the opening store, or it is held
-pub source_found : (opening s now : Store) (batch : List Transfer) (numbers : List ℕ) → IsReady opening s batch numbers → IsOldElsewhere s (setting_of batch numbers) now → (t : ℕ) → t < length batch → found batch opening now (source_at batch t) ≡ block_of opening (source_at batch t)
+pub source_found : (opening s now : Store) (batch : List Transfer) (numbers : List ℕ) → IsReady opening s batch numbers
+    → IsOldElsewhere s (setting_of batch numbers) now → (t : ℕ) → t < length batch → found batch opening now (source_at batch t)
+    ≡ block_of opening (source_at batch t)
 source_found opening s now batch numbers r same t l =
     let p = source_at batch t in
     elim (find_destination batch p) [
       | inl f ↦ found_held batch opening now p (is_written-true batch f.0 p f.1 f.2)
-      | inr none ↦ found_now batch opening now p (is_written-false batch p none) ∙ same p (r.places t l).0 (unwritten_by_setting batch numbers p r.setting none) ∙ r.agrees t l none
+      | inr none ↦ found_now batch opening now p (is_written-false batch p none) ∙ same p (r.places t l).0 (unwritten_by_setting batch numbers p r.setting none)
+          ∙ r.agrees t l none
     ]
 
-pub Premises-from_ready : (opening s : Store) (batch : List Transfer) (numbers : List ℕ) → IsReady opening s batch numbers → Premises (found batch opening) opening s (setting_of batch numbers)
+pub Premises-from_ready : (opening s : Store) (batch : List Transfer) (numbers : List ℕ) → IsReady opening s batch numbers
+    → Premises (found batch opening) opening s (setting_of batch numbers)
 Premises-from_ready opening s batch numbers r =
     let ts = setting_of batch numbers in
     let fits = setting_fits opening s batch numbers r in
@@ -106,7 +117,8 @@ Premises-from_ready opening s batch numbers r =
       whole = r.whole;
       places = fits;
       distinct = setting_distinct opening s batch numbers r;
-      wide = λ i h. block_length opening (source_at ts i) r.opening_whole (subst (λ (x : ShapeView). HasPlace x (source_at ts i)) r.same_shape (fits i h).0) ∙ ap (λ (x : ShapeView). x.words) (sym r.same_shape);
+      wide = λ i h. block_length opening (source_at ts i) r.opening_whole (subst (λ (x : ShapeView). HasPlace x (source_at ts i)) r.same_shape (fits i h).0)
+          ∙ ap (λ (x : ShapeView). x.words) (sym r.same_shape);
       finds = λ now same i h.
           let hi : i < length numbers = omega (arith, length-map numbers (transfer_at batch)) in
           subst (λ (t : Transfer). found batch opening now (source_of t) ≡ block_of opening (source_of t)) (sym (transfer_at-setting_of batch numbers i hi))
@@ -114,7 +126,8 @@ Premises-from_ready opening s batch numbers r =
     }
 
 -- only the counts of the list's transfers matter
-pub IsMoved-same : (opening old : Store) (ts : List Transfer) (m n : ℕ → ℕ) (new : Store) → ((i : ℕ) → i < length ts → m i ≡ n i) → IsMovedFrom opening old ts m new → IsMovedFrom opening old ts n new
+pub IsMoved-same : (opening old : Store) (ts : List Transfer) (m n : ℕ → ℕ) (new : Store) → ((i : ℕ) → i < length ts → m i ≡ n i)
+    → IsMovedFrom opening old ts m new → IsMovedFrom opening old ts n new
 IsMoved-same opening old ts m n new e h = record {
   same_shape = h.same_shape;
   same_length = h.same_length;
@@ -124,7 +137,9 @@ IsMoved-same opening old ts m n new e h = record {
 }
 
 -- a step keeps the closed form
-step_keeps : (find : Store → Place → List ℕ) (opening old : Store) (ts : List Transfer) → Premises find opening old ts → (c : Core) (i : ℕ) → IsMovedFrom opening old ts (λ k. slice_index c.moved k) c.store → length c.moved ≡ length ts → i < length ts → slice_index c.moved i < old.shape.words → IsMovedFrom opening old ts (λ k. slice_index (step find ts c i).moved k) (step find ts c i).store
+step_keeps : (find : Store → Place → List ℕ) (opening old : Store) (ts : List Transfer) → Premises find opening old ts → (c : Core) (i : ℕ)
+    → IsMovedFrom opening old ts (λ k. slice_index c.moved k) c.store → length c.moved ≡ length ts → i < length ts → slice_index c.moved i < old.shape.words
+    → IsMovedFrom opening old ts (λ k. slice_index (step find ts c i).moved k) (step find ts c i).store
 step_keeps find opening old ts pr c i h len hi room =
     let t = transfer_at ts i in
     let n = slice_index c.moved i in
@@ -141,18 +156,22 @@ step_keeps find opening old ts pr c i h len hi room =
       same_shape = h.same_shape;
       same_length = length-set c.store.blocks _ _ ∙ h.same_length;
       destinations = λ j hj. elim (cases_eq j i) [
-        | inl e ↦ subst (λ (k : ℕ). block_of (step find ts c i).store (destination_at ts k) ≡ take (slice_index (step find ts c i).moved k) (block_of opening (source_at ts k)) ++ drop (slice_index (step find ts c i).moved k) (block_of old (destination_at ts k))) (sym e)
+        | inl e ↦ subst (λ (k : ℕ). block_of (step find ts c i).store (destination_at ts k) ≡ take (slice_index (step find ts c i).moved k)
+            (block_of opening (source_at ts k)) ++ drop (slice_index (step find ts c i).moved k) (block_of old (destination_at ts k))) (sym e)
             (block_of-set_same c.store (destination_of t) (set (block_of c.store (destination_of t)) n (get_or now n 0)) long
             ∙ ap₂ (λ (x y : List ℕ). set x n (get_or y n 0)) (h.destinations i hi) read
             ∙ (prefix_step a b n (pr.wide i hi ∙ sym (block_length old (destination_of t) pr.whole dst)) (omega (arith, pr.wide i hi))
             ∙ ap (λ (x : ℕ). take x a ++ drop x b) (sym (get_or-set_same c.moved i (n + 1) 0 (omega arith)))))
         | inr ne ↦
-            block_of-set_other c.store (destination_of t) (destination_at ts j) (set (block_of c.store (destination_of t)) n (get_or now n 0)) (fits (destination_of t) dst) (fits (destination_at ts j) (pr.places j hj).1) (pr.distinct j i hj hi ne)
+            block_of-set_other c.store (destination_of t) (destination_at ts j) (set (block_of c.store (destination_of t)) n (get_or now n 0))
+            (fits (destination_of t) dst) (fits (destination_at ts j) (pr.places j hj).1) (pr.distinct j i hj hi ne)
             ∙ h.destinations j hj
-            ∙ ap (λ (x : ℕ). take x (block_of opening (source_at ts j)) ++ drop x (block_of old (destination_at ts j))) (sym (get_or-set_other c.moved i j (n + 1) 0 ne))
+            ∙ ap (λ (x : ℕ). take x (block_of opening (source_at ts j)) ++ drop x (block_of old (destination_at ts j)))
+            (sym (get_or-set_other c.moved i j (n + 1) 0 ne))
       ];
       others = λ p hp none.
-          block_of-set_other c.store (destination_of t) p (set (block_of c.store (destination_of t)) n (get_or now n 0)) (fits (destination_of t) dst) (fits p hp) (λ e. none i hi (sym e))
+          block_of-set_other c.store (destination_of t) p (set (block_of c.store (destination_of t)) n (get_or now n 0)) (fits (destination_of t) dst)
+          (fits p hp) (λ e. none i hi (sym e))
           ∙ h.others p hp none;
     }
 
@@ -165,7 +184,8 @@ pub times_other : (i k : ℕ) (steps : List ℕ) → (k ≡ i → ⊥) → times
 times_other i k steps n =
     omega (arith, sum_by-cons (λ (j : ℕ). cond (j == k) 1 0) i steps, ap (λ (b : Bool). cond {A = ℕ} b 1 0) (ne_eqb i k (λ e. n (sym e))))
 
-moved_step : (moved : List ℕ) (i k : ℕ) (steps : List ℕ) → i < length moved → get_or (set moved i (get_or moved i 0 + 1)) k 0 + times k steps ≡ get_or moved k 0 + times k (i ∷ steps)
+moved_step : (moved : List ℕ) (i k : ℕ) (steps : List ℕ) → i < length moved → get_or (set moved i (get_or moved i 0 + 1)) k 0 + times k steps
+    ≡ get_or moved k 0 + times k (i ∷ steps)
 moved_step moved i k steps h =
     elim (cases_eq k i) [
       | inl e ↦ subst (λ (x : ℕ). get_or (set moved i (get_or moved i 0 + 1)) x 0 + times x steps ≡ get_or moved x 0 + times x (i ∷ steps)) (sym e)
@@ -174,15 +194,20 @@ moved_step moved i k steps h =
     ]
 
 -- so does a step list
-run_keeps : (find : Store → Place → List ℕ) (opening old : Store) (ts : List Transfer) → Premises find opening old ts → (c : Core) (steps : List ℕ) → IsMovedFrom opening old ts (λ k. slice_index c.moved k) c.store → length c.moved ≡ length ts → All (λ i. i < length ts) steps → ((k : ℕ) → k < length ts → slice_index c.moved k + times k steps ≤ old.shape.words) → IsMovedFrom opening old ts (λ k. slice_index c.moved k + times k steps) (run find ts c steps).store
+run_keeps : (find : Store → Place → List ℕ) (opening old : Store) (ts : List Transfer) → Premises find opening old ts → (c : Core) (steps : List ℕ)
+    → IsMovedFrom opening old ts (λ k. slice_index c.moved k) c.store → length c.moved ≡ length ts → All (λ i. i < length ts) steps
+    → ((k : ℕ) → k < length ts → slice_index c.moved k + times k steps ≤ old.shape.words)
+    → IsMovedFrom opening old ts (λ k. slice_index c.moved k + times k steps) (run find ts c steps).store
 run_keeps find opening old ts pr c [] h len known room = IsMoved-same opening old ts _ _ c.store (λ i l. omega arith) h
 run_keeps find opening old ts pr c (i ∷ steps) h len known room =
     let hi : i < length ts = known 0 0 (omega arith) in
     let next = step find ts c i in
-    let same : (k : ℕ) → slice_index next.moved k + times k steps ≡ slice_index c.moved k + times k (i ∷ steps) = λ k. moved_step c.moved i k steps (omega arith) in
+    let same : (k : ℕ) → slice_index next.moved k + times k steps ≡ slice_index c.moved k + times k (i ∷ steps) =
+    λ k. moved_step c.moved i k steps (omega arith) in
     let now : slice_index c.moved i < old.shape.words = omega (arith, room i hi, times_same i steps) in
     IsMoved-same opening old ts _ _ (run find ts next steps).store (λ k l. same k)
-    (run_keeps find opening old ts pr next steps (step_keeps find opening old ts pr c i h len hi now) (length-set c.moved i _ ∙ len) (λ k d l. known (suc k) d (omega arith)) (λ k l. omega (arith, same k, room k l)))
+    (run_keeps find opening old ts pr next steps (step_keeps find opening old ts pr c i h len hi now) (length-set c.moved i _ ∙ len)
+    (λ k d l. known (suc k) d (omega arith)) (λ k l. omega (arith, same k, room k l)))
 
 none_moved : (ts : List Transfer) (k : ℕ) → ◌≡◌ {A = ℕ} (get_or (map (λ (t : Transfer). 0) ts) k 0) 0
 none_moved [] k = refl
@@ -196,14 +221,18 @@ IsMoved-at_start opening old ts = IsMoved-same opening old ts (λ _. 0) _ old
     (record { same_shape = refl; same_length = refl; destinations = λ i h. refl; others = λ p hp none. refl })
 
 -- after any step list
-run_moves : (find : Store → Place → List ℕ) (opening old : Store) (ts : List Transfer) → Premises find opening old ts → (steps : List ℕ) → IsStepList ts old.shape.words steps → IsMovedFrom opening old ts (λ k. times k steps) (run find ts (at_start old ts) steps).store
+run_moves : (find : Store → Place → List ℕ) (opening old : Store) (ts : List Transfer) → Premises find opening old ts → (steps : List ℕ)
+    → IsStepList ts old.shape.words steps → IsMovedFrom opening old ts (λ k. times k steps) (run find ts (at_start old ts) steps).store
 run_moves find opening old ts pr steps h =
     IsMoved-same opening old ts _ _ (run find ts (at_start old ts) steps).store (λ k l. ap (λ (x : ℕ). x + times k steps) (none_moved ts k) ∙ omega arith)
-    (run_keeps find opening old ts pr (at_start old ts) steps (IsMoved-at_start opening old ts) (length-map ts (λ _. 0)) h.known (λ k l. omega (arith, none_moved ts k, h.bounded k l)))
+    (run_keeps find opening old ts pr (at_start old ts) steps (IsMoved-at_start opening old ts) (length-map ts (λ _. 0)) h.known
+    (λ k l. omega (arith, none_moved ts k, h.bounded k l)))
 
 -- two stores are one where the destinations of transfers are the same in both, and all else is
-same_written : (old a b : Store) (ts : List Transfer) → HasAllBlocks old → a.shape ≡ old.shape → b.shape ≡ old.shape → length a.blocks ≡ length old.blocks → length b.blocks ≡ length old.blocks
-    → ((i : ℕ) → i < length ts → block_of a (destination_at ts i) ≡ block_of b (destination_at ts i)) → ((p : Place) → HasPlace old.shape p → IsUnwritten ts p → block_of a p ≡ block_of b p) → a ≡ b
+same_written : (old a b : Store) (ts : List Transfer) → HasAllBlocks old → a.shape ≡ old.shape → b.shape ≡ old.shape → length a.blocks ≡ length old.blocks
+    → length b.blocks ≡ length old.blocks
+    → ((i : ℕ) → i < length ts → block_of a (destination_at ts i) ≡ block_of b (destination_at ts i))
+    → ((p : Place) → HasPlace old.shape p → IsUnwritten ts p → block_of a p ≡ block_of b p) → a ≡ b
 same_written old a b ts all ea eb la lb written others =
     same_store old a b all ea eb la lb (λ p hp. elim (find_destination ts p) [
       | inl f ↦ subst (λ (q : Place). block_of a q ≡ block_of b q) f.2 (written f.0 f.1)
@@ -211,7 +240,8 @@ same_written old a b ts all ea eb la lb written others =
     ])
 
 -- one store has given counts
-pub one_moved_from : (opening old a b : Store) (ts : List Transfer) (moved : ℕ → ℕ) → HasAllBlocks old → IsMovedFrom opening old ts moved a → IsMovedFrom opening old ts moved b → a ≡ b
+pub one_moved_from : (opening old a b : Store) (ts : List Transfer) (moved : ℕ → ℕ) → HasAllBlocks old → IsMovedFrom opening old ts moved a
+    → IsMovedFrom opening old ts moved b → a ≡ b
 one_moved_from opening old a b ts moved all ha hb =
     same_written old a b ts all ha.same_shape hb.same_shape ha.same_length hb.same_length
     (λ i l. ha.destinations i l ∙ sym (hb.destinations i l)) (λ p hp none. ha.others p hp none ∙ sym (hb.others p hp none))
@@ -228,13 +258,15 @@ one_placed old a b ts all ha hb =
 IsStepList-from_complete : (ts : List Transfer) (w : ℕ) (steps : List ℕ) → IsComplete ts w steps → IsStepList ts w steps
 IsStepList-from_complete ts w steps h = record { known = h.known; bounded = λ i l. omega (arith, h.complete i l) }
 
-pub complete_moves : (find : Store → Place → List ℕ) (opening old : Store) (ts : List Transfer) → Premises find opening old ts → (steps : List ℕ) → IsComplete ts old.shape.words steps → IsMovedFrom opening old ts (λ k. old.shape.words) (run find ts (at_start old ts) steps).store
+pub complete_moves : (find : Store → Place → List ℕ) (opening old : Store) (ts : List Transfer) → Premises find opening old ts → (steps : List ℕ)
+    → IsComplete ts old.shape.words steps → IsMovedFrom opening old ts (λ k. old.shape.words) (run find ts (at_start old ts) steps).store
 complete_moves find opening old ts pr steps h =
     IsMoved-same opening old ts _ _ (run find ts (at_start old ts) steps).store h.complete
     (run_moves find opening old ts pr steps (IsStepList-from_complete ts old.shape.words steps h))
 
 -- all words moved is all blocks placed
-pub IsPlaced-from_moved : (find : Store → Place → List ℕ) (opening old : Store) (ts : List Transfer) → Premises find opening old ts → (new : Store) → IsMovedFrom opening old ts (λ k. old.shape.words) new → IsPlacedFrom opening old ts new
+pub IsPlaced-from_moved : (find : Store → Place → List ℕ) (opening old : Store) (ts : List Transfer) → Premises find opening old ts → (new : Store)
+    → IsMovedFrom opening old ts (λ k. old.shape.words) new → IsPlacedFrom opening old ts new
 IsPlaced-from_moved find opening old ts pr new h = record {
   same_shape = h.same_shape;
   same_length = h.same_length;
@@ -252,13 +284,15 @@ pub one_end : OneEnd
 one_end opening s batch numbers r a b ha hb =
     let pr = Premises-from_ready opening s batch numbers r in
     let ts = setting_of batch numbers in
-    one_moved_from opening s (run (found batch opening) ts (at_start s ts) a).store (run (found batch opening) ts (at_start s ts) b).store ts _ (all_blocks s pr.whole) (complete_moves (found batch opening) opening s ts pr a ha) (complete_moves (found batch opening) opening s ts pr b hb)
+    one_moved_from opening s (run (found batch opening) ts (at_start s ts) a).store (run (found batch opening) ts (at_start s ts) b).store ts _
+    (all_blocks s pr.whole) (complete_moves (found batch opening) opening s ts pr a ha) (complete_moves (found batch opening) opening s ts pr b hb)
 
 pub end_is_placed : EndIsPlaced
 end_is_placed opening s batch numbers r steps h =
     let pr = Premises-from_ready opening s batch numbers r in
     let ts = setting_of batch numbers in
-    IsPlaced-from_moved (found batch opening) opening s ts pr (run (found batch opening) ts (at_start s ts) steps).store (complete_moves (found batch opening) opening s ts pr steps h)
+    IsPlaced-from_moved (found batch opening) opening s ts pr (run (found batch opening) ts (at_start s ts) steps).store
+    (complete_moves (found batch opening) opening s ts pr steps h)
 
 pub each_prefix : EachPrefix
 each_prefix opening s batch numbers r steps h =

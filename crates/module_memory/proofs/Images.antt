@@ -1,5 +1,6 @@
 -- Images of stores.
-use Rattle.std.proofs.Common.{ℕ, zero, suc, ◌≡◌, ◌<◌, ◌≤◌, ◌+◌, ◌*◌, ◌^◌, List, [], ◌∷◌, ◌++◌, length, map, get_or, take, drop, refl, sym, ap, ap₂, ◌∙◌, subst, arith, append_assoc, length-append, length-take, length-drop}
+use Rattle.std.proofs.Common.{ℕ, zero, suc, ◌≡◌, ◌<◌, ◌≤◌, ◌+◌, ◌*◌, ◌^◌, List, [], ◌∷◌, ◌++◌, length, map, get_or, take, drop, refl, sym, ap, ap₂, ◌∙◌, subst, arith, append_assoc, length-append}
+use Rattle.std.proofs.Common.{length-take, length-drop}
 use Rattle.std.specs.List.{flat_map}
 use Rattle.std.specs.Simd.{first_chunks}
 use Rattle.std.proofs.lemmas.Nat.{le_bytes_4, from_le_bytes-to_le_bytes_4}
@@ -28,7 +29,8 @@ pub bytes_again : (k : ℕ) (xs : List ℕ) → length xs ≡ 4 * k → ((i : �
 bytes_again zero xs e h = sym (nil_from_length xs e)
 bytes_again (suc k) xs e h =
     let first : bytes_of_word (word_of_bytes (take 4 xs)) ≡ take 4 xs = le_bytes_4 (take 4 xs) _ (omega (arith, length-take 4 xs)) (small_take 4 xs h) refl in
-    let others : bytes_of_block (map word_of_bytes (first_chunks 4 k (drop 4 xs))) ≡ drop 4 xs = bytes_again k (drop 4 xs) (omega (arith, length-drop 4 xs)) (λ i. rw get_or-drop (h (4 + i))) in
+    let others : bytes_of_block (map word_of_bytes (first_chunks 4 k (drop 4 xs))) ≡ drop 4 xs = bytes_again k (drop 4 xs) (omega (arith, length-drop 4 xs))
+    (λ i. rw get_or-drop (h (4 + i))) in
     ap₂ (λ (a b : List ℕ). a ++ b) first others ∙ take-append-drop 4 xs
 
 -- ---- blocks that are read
@@ -43,7 +45,8 @@ pub record AreRead (width n : ℕ) (blocks : List (List ℕ)) : Type 0 where
   pub long : (k : ℕ) → k < length blocks → length (get_or blocks k []) ≡ width
   pub words : AreSmall blocks
 
-long_more : (width : ℕ) (blocks : List (List ℕ)) (b : List ℕ) → length b ≡ width → ((k : ℕ) → k < length blocks → length (get_or blocks k []) ≡ width) → (k : ℕ) → k < length (blocks ++ b ∷ []) → length (get_or (blocks ++ b ∷ []) k []) ≡ width
+long_more : (width : ℕ) (blocks : List (List ℕ)) (b : List ℕ) → length b ≡ width → ((k : ℕ) → k < length blocks → length (get_or blocks k []) ≡ width) → (k : ℕ)
+    → k < length (blocks ++ b ∷ []) → length (get_or (blocks ++ b ∷ []) k []) ≡ width
 long_more width [] b e h zero l = e
 long_more width [] b e h (suc k) l = absurd (omega arith)
 long_more width (x ∷ xs) b e h zero l = h 0 (omega arith)
@@ -55,7 +58,8 @@ words_more [] b e h (suc k) j = omega arith
 words_more (x ∷ xs) b e h zero j = h 0 j
 words_more (x ∷ xs) b e h (suc k) j = words_more xs b e (λ (i : ℕ). h (suc i)) k j
 
-pub more_read : (width n : ℕ) (blocks : List (List ℕ)) (b : List ℕ) → length b ≡ width → ((j : ℕ) → get_or b j 0 < 2 ^ 32) → AreRead width n blocks → AreRead width (n + 1) (blocks ++ b ∷ [])
+pub more_read : (width n : ℕ) (blocks : List (List ℕ)) (b : List ℕ) → length b ≡ width → ((j : ℕ) → get_or b j 0 < 2 ^ 32) → AreRead width n blocks
+    → AreRead width (n + 1) (blocks ++ b ∷ [])
 more_read width n blocks b e f h = record {
   count = omega (arith, length-append blocks (b ∷ []), h.count);
   long = long_more width blocks b e h.long;
@@ -63,7 +67,8 @@ more_read width n blocks b e f h = record {
 }
 
 -- the bytes of what is read and of what is left are all bytes
-pub image_more : (blocks : List (List ℕ)) (b rest bytes : List ℕ) (n : ℕ) → bytes_of_block b ≡ take n rest → flat_map bytes_of_block blocks ++ rest ≡ bytes → flat_map bytes_of_block (blocks ++ b ∷ []) ++ drop n rest ≡ bytes
+pub image_more : (blocks : List (List ℕ)) (b rest bytes : List ℕ) (n : ℕ) → bytes_of_block b ≡ take n rest → flat_map bytes_of_block blocks ++ rest ≡ bytes
+    → flat_map bytes_of_block (blocks ++ b ∷ []) ++ drop n rest ≡ bytes
 image_more blocks b rest bytes n e h =
     let before = flat_map bytes_of_block blocks in
     ap (λ (x : List ℕ). x ++ drop n rest) (sym (flat_map_more bytes_of_block [] blocks b))
@@ -79,7 +84,8 @@ room_left m b w n all left e f l = let more : n + 1 ≤ m * b = omega arith in o
 -- ---- parts of one length, one after the other
 
 -- all of them
-pub parts_length : {X : Type 0} (f : X → List ℕ) (n : ℕ) (xs : List X) (d : X) → ((i : ℕ) → i < length xs → length (f (get_or xs i d)) ≡ n) → length (flat_map f xs) ≡ n * length xs
+pub parts_length : {X : Type 0} (f : X → List ℕ) (n : ℕ) (xs : List X) (d : X) → ((i : ℕ) → i < length xs → length (f (get_or xs i d)) ≡ n)
+    → length (flat_map f xs) ≡ n * length xs
 parts_length f n [] d h = omega arith
 parts_length f n (x ∷ xs) d h =
     let first : length (f x) ≡ n = h 0 (omega arith) in
@@ -87,7 +93,8 @@ parts_length f n (x ∷ xs) d h =
     length-append (f x) (flat_map f xs) ∙ omega (arith, first, others)
 
 -- some elements of one of them
-pub part_at : {X : Type 0} (f : X → List ℕ) (n m j : ℕ) (xs : List X) (d : X) (k : ℕ) → ((i : ℕ) → i < length xs → length (f (get_or xs i d)) ≡ n) → j + m ≤ n → k < length xs → take m (drop (n * k + j) (flat_map f xs)) ≡ take m (drop j (f (get_or xs k d)))
+pub part_at : {X : Type 0} (f : X → List ℕ) (n m j : ℕ) (xs : List X) (d : X) (k : ℕ) → ((i : ℕ) → i < length xs → length (f (get_or xs i d)) ≡ n) → j + m ≤ n
+    → k < length xs → take m (drop (n * k + j) (flat_map f xs)) ≡ take m (drop j (f (get_or xs k d)))
 part_at f n m j [] d k h l below = absurd (omega arith)
 part_at f n m j (x ∷ xs) d zero h l below =
     let first : length (f x) ≡ n = h 0 (omega arith) in
@@ -120,7 +127,8 @@ images_are_whole s whole =
     ∙ omega arith
 
 -- the bytes of a word, where they stand in the image
-bytes_there : (s : Store) (p : Place) (j : ℕ) → IsWhole s → HasPlace s.shape p → j < s.shape.words → word_in_image s.shape (image_of s) p j ≡ bytes_of_word (word s p j)
+bytes_there : (s : Store) (p : Place) (j : ℕ) → IsWhole s → HasPlace s.shape p → j < s.shape.words → word_in_image s.shape (image_of s) p j
+    ≡ bytes_of_word (word s p j)
 bytes_there s p j whole hp l =
     let k = place_index s.shape p in
     let w = s.shape.words in
@@ -137,7 +145,8 @@ words_are_in_images s p j whole small hp l =
     sym (ap word_of_bytes (bytes_there s p j whole hp l) ∙ from_le_bytes-to_le_bytes_4 (word s p j) (small p j))
 
 -- a word of a store that has an image
-word_of_image : (shape : ShapeView) (image : List ℕ) (s : Store) → HasImage shape image s → (p : Place) (j : ℕ) → HasPlace shape p → j < shape.words → word s p j ≡ word_of_bytes (word_in_image shape image p j)
+word_of_image : (shape : ShapeView) (image : List ℕ) (s : Store) → HasImage shape image s → (p : Place) (j : ℕ) → HasPlace shape p → j < shape.words
+    → word s p j ≡ word_of_bytes (word_in_image shape image p j)
 word_of_image shape image s h p j hp l =
     let hp' : HasPlace s.shape p = subst (λ (x : ShapeView). HasPlace x p) (sym h.same_shape) hp in
     let l' : j < s.shape.words = subst (λ (x : ShapeView). j < x.words) (sym h.same_shape) l in

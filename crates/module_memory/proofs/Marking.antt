@@ -20,7 +20,9 @@ pub mark_at_small : (s : ShapeView) (k : ℕ) → IsShape s → k < s.modules * 
 mark_at_small s k h l =
     omega (arith, div_below k s.blocks s.modules (omega arith) l, mod_below k s.blocks (omega arith))
 
-pub IsMarked-from_indices : (old new : Store) → new.shape ≡ old.shape → length new.blocks ≡ length old.blocks → length old.blocks ≡ old.shape.modules * old.shape.blocks → ((k : ℕ) → k < length old.blocks → get_or new.blocks k [] ≡ range_with_len (mark_at old.shape.blocks k) old.shape.words) → IsMarked old new
+pub IsMarked-from_indices : (old new : Store) → new.shape ≡ old.shape → length new.blocks ≡ length old.blocks → length old.blocks
+    ≡ old.shape.modules * old.shape.blocks
+    → ((k : ℕ) → k < length old.blocks → get_or new.blocks k [] ≡ range_with_len (mark_at old.shape.blocks k) old.shape.words) → IsMarked old new
 IsMarked-from_indices old new e l all h = record {
   same_shape = e;
   same_length = l;
@@ -33,7 +35,8 @@ IsMarked-from_indices old new e l all h = record {
 }
 
 -- the blocks below an index are marked, a step on
-pub marked_more : (f : ℕ → List ℕ) (xs : List (List ℕ)) (i : ℕ) (ws : List ℕ) → i < length xs → ws ≡ f i → ((k : ℕ) → k < i → get_or xs k [] ≡ f k) → (k : ℕ) → k < i + 1 → get_or (set xs i ws) k [] ≡ f k
+pub marked_more : (f : ℕ → List ℕ) (xs : List (List ℕ)) (i : ℕ) (ws : List ℕ) → i < length xs → ws ≡ f i → ((k : ℕ) → k < i → get_or xs k [] ≡ f k) → (k : ℕ)
+    → k < i + 1 → get_or (set xs i ws) k [] ≡ f k
 marked_more f xs i ws l e h k m =
     elim (cases_eq k i) [
       | inl g ↦ subst (λ (x : ℕ). get_or (set xs i ws) x [] ≡ f x) (sym g) (get_or-set_same xs i ws [] l ∙ e)

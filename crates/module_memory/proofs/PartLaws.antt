@@ -1,5 +1,6 @@
 -- A rack that is parted, and rejoined.
-use Rattle.std.proofs.Common.{ℕ, ◌*◌, zero, suc, ◌≡◌, ◌≢◌, ◌<◌, List, [], ◌∷◌, ◌++◌, length, take, get_or, set, refl, sym, ap, ◌∙◌, subst, subst₂, arith, length-set, get_or-set_same, get_or-set_other, set-set}
+use Rattle.std.proofs.Common.{ℕ, ◌*◌, zero, suc, ◌≡◌, ◌≢◌, ◌<◌, List, [], ◌∷◌, ◌++◌, length, take, get_or, set, refl, sym, ap, ◌∙◌, subst, subst₂, arith, length-set, get_or-set_same, get_or-set_other}
+use Rattle.std.proofs.Common.{set-set}
 use Rattle.std.proofs.lemmas.List.{set_comm, set-get_or, get_or-take, length-take-le, length-map, get_or-map}
 use Rattle.batch.specs.ShapeView.{ShapeView}
 use Rattle.batch.specs.declared.transfer.Place.{Place}
@@ -31,7 +32,8 @@ AreLendable-tail s p ps h = record {
 pub IsOnce-from_lendable : (s : ShapeView) (ps : List Place) → AreLendable s ps → IsOnce s ps
 IsOnce-from_lendable s [] h = tt
 IsOnce-from_lendable s (p ∷ ps) h = (
-  (λ k l e. h.distinct 0 (suc k) (omega arith) (omega arith) (same_place_from_index s p (place_in ps k) (h.exist 0 (omega arith)) (h.exist (suc k) (omega arith)) (sym e))),
+  (λ k l e. h.distinct 0 (suc k) (omega arith) (omega arith)
+      (same_place_from_index s p (place_in ps k) (h.exist 0 (omega arith)) (h.exist (suc k) (omega arith)) (sym e))),
   IsOnce-from_lendable s ps (AreLendable-tail s p ps h),
 )
 
@@ -43,9 +45,11 @@ block_of-without s (q ∷ ps) p h =
     ∙ get_or-set_other s.blocks (place_index s.shape q) (place_index s.shape p) [] [] (λ e. h 0 (omega arith) (sym e))
 
 -- a block that is lent has no words in the rest
-pub block_of-without_lent : (s : Store) (ps : List Place) (i : ℕ) → IsOnce s.shape ps → i < length ps → place_index s.shape (place_in ps i) < length s.blocks → block_of (without s ps) (place_in ps i) ≡ []
+pub block_of-without_lent : (s : Store) (ps : List Place) (i : ℕ) → IsOnce s.shape ps → i < length ps → place_index s.shape (place_in ps i) < length s.blocks
+    → block_of (without s ps) (place_in ps i) ≡ []
 block_of-without_lent s [] i once l room = absurd (omega arith)
-block_of-without_lent s (p ∷ ps) zero once l room = block_of-without (set_block s p []) ps p once.0 ∙ get_or-set_same s.blocks (place_index s.shape p) [] [] room
+block_of-without_lent s (p ∷ ps) zero once l room = block_of-without (set_block s p []) ps p once.0 ∙ get_or-set_same s.blocks (place_index s.shape p) [] []
+    room
 block_of-without_lent s (p ∷ ps) (suc i) once l room =
     block_of-without_lent (set_block s p []) ps i once.1 (omega arith) (omega (arith, room, length-set s.blocks (place_index s.shape p) []))
 
@@ -58,7 +62,8 @@ without_push s [] p = refl
 without_push s (q ∷ ps) p = without_push (set_block s q []) ps p
 
 -- writes to two blocks, in either order
-set_block_comm : (s : Store) (p q : Place) (x y : List ℕ) → place_index s.shape q ≢ place_index s.shape p → set_block (set_block s q y) p x ≡ set_block (set_block s p x) q y
+set_block_comm : (s : Store) (p q : Place) (x y : List ℕ) → place_index s.shape q ≢ place_index s.shape p → set_block (set_block s q y) p x
+    ≡ set_block (set_block s p x) q y
 set_block_comm s p q x y n = store_from_parts _ _ refl (set_comm s.blocks (place_index s.shape q) (place_index s.shape p) y x n)
 
 set_block-without : (s : Store) (ps : List Place) (p : Place) (x : List ℕ) → IsOff s.shape ps p → set_block (without s ps) p x ≡ without (set_block s p x) ps
@@ -68,7 +73,8 @@ set_block-without s (q ∷ ps) p x h =
     ∙ ap (λ (t : Store). without t ps) (set_block_comm s p q x [] (h 0 (omega arith)))
 
 -- the words of these places, put back where they stood
-joined_back : (s t : Store) (ps : List Place) → IsOnce t.shape ps → ((k : ℕ) → k < length ps → block_of s (place_in ps k) ≡ block_of t (place_in ps k)) → store_rejoined (without t ps) (bays_of s ps) ≡ t
+joined_back : (s t : Store) (ps : List Place) → IsOnce t.shape ps → ((k : ℕ) → k < length ps → block_of s (place_in ps k) ≡ block_of t (place_in ps k))
+    → store_rejoined (without t ps) (bays_of s ps) ≡ t
 joined_back s t [] once same = refl
 joined_back s t (p ∷ ps) once same =
     ap (λ (r : Store). store_rejoined r (bays_of s ps))
@@ -104,7 +110,8 @@ Rejoins-parted s ps w h = record {
 }
 
 -- a write off all bays
-pub set_block-joined : (s : Store) (bays : List BlockAt) (p : Place) (x : List ℕ) → IsOff s.shape (places_of bays) p → store_rejoined (set_block s p x) bays ≡ set_block (store_rejoined s bays) p x
+pub set_block-joined : (s : Store) (bays : List BlockAt) (p : Place) (x : List ℕ) → IsOff s.shape (places_of bays) p → store_rejoined (set_block s p x) bays
+    ≡ set_block (store_rejoined s bays) p x
 set_block-joined s [] p x h = refl
 set_block-joined s (b ∷ bays) p x h =
     ap (λ (t : Store). store_rejoined t bays) (sym (set_block_comm s p b.place x b.words (h 0 (omega arith))))
@@ -118,24 +125,31 @@ block_of-joined_off s (b ∷ bays) p h =
     ∙ get_or-set_other s.blocks (place_index s.shape b.place) (place_index s.shape p) b.words [] (λ e. h 0 (omega arith) (sym e))
 
 -- a bay's words stand at its place
-pub block_of-joined_bay : (s : Store) (bays : List BlockAt) (k : ℕ) → IsOnce s.shape (places_of bays) → k < length bays → place_index s.shape (bay_in bays k).place < length s.blocks → block_of (store_rejoined s bays) (bay_in bays k).place ≡ (bay_in bays k).words
+pub block_of-joined_bay : (s : Store) (bays : List BlockAt) (k : ℕ) → IsOnce s.shape (places_of bays) → k < length bays
+    → place_index s.shape (bay_in bays k).place < length s.blocks → block_of (store_rejoined s bays) (bay_in bays k).place ≡ (bay_in bays k).words
 block_of-joined_bay s [] k once l room = absurd (omega arith)
 block_of-joined_bay s (b ∷ bays) zero once l room =
     block_of-joined_off (set_block s b.place b.words) bays b.place once.0
     ∙ get_or-set_same s.blocks (place_index s.shape b.place) b.words [] room
 block_of-joined_bay s (b ∷ bays) (suc k) once l room =
-    block_of-joined_bay (set_block s b.place b.words) bays k once.1 (omega arith) (omega (arith, room, length-set s.blocks (place_index s.shape b.place) b.words))
+    block_of-joined_bay (set_block s b.place b.words) bays k once.1 (omega arith)
+    (omega (arith, room, length-set s.blocks (place_index s.shape b.place) b.words))
 
 -- other words in a bay are other words at its place
-pub joined-set : (s : Store) (bays : List BlockAt) (k : ℕ) (ws : List ℕ) → IsOnce s.shape (places_of bays) → k < length bays → store_rejoined s (set bays k (record { place = (bay_in bays k).place; words = ws })) ≡ set_block (store_rejoined s bays) (bay_in bays k).place ws
+pub joined-set : (s : Store) (bays : List BlockAt) (k : ℕ) (ws : List ℕ) → IsOnce s.shape (places_of bays) → k < length bays
+    → store_rejoined s (set bays k (record { place = (bay_in bays k).place; words = ws })) ≡ set_block (store_rejoined s bays) (bay_in bays k).place ws
 joined-set s [] k ws once l = absurd (omega arith)
 joined-set s (b ∷ bays) zero ws once l =
-    ap (λ (t : Store). store_rejoined t bays) (store_from_parts (set_block s b.place ws) (set_block (set_block s b.place b.words) b.place ws) refl (sym (set-set s.blocks (place_index s.shape b.place) b.words ws)))
+    ap (λ (t : Store). store_rejoined t bays) (store_from_parts (set_block s b.place ws) (set_block (set_block s b.place b.words) b.place ws) refl
+    (sym (set-set s.blocks (place_index s.shape b.place) b.words ws)))
     ∙ set_block-joined (set_block s b.place b.words) bays b.place ws once.0
 joined-set s (b ∷ bays) (suc k) ws once l = joined-set (set_block s b.place b.words) bays k ws once.1 (omega arith)
 
 -- one word set in a bay is that word set in the store
-pub joined-set_word : (s : Store) (bays : List BlockAt) (k j w : ℕ) → IsOnce s.shape (places_of bays) → k < length bays → place_index s.shape (bay_in bays k).place < length s.blocks → store_rejoined s (set bays k (record { place = (bay_in bays k).place; words = set (bay_in bays k).words j w })) ≡ set_word (store_rejoined s bays) (bay_in bays k).place j w
+pub joined-set_word : (s : Store) (bays : List BlockAt) (k j w : ℕ) → IsOnce s.shape (places_of bays) → k < length bays
+    → place_index s.shape (bay_in bays k).place < length s.blocks
+    → store_rejoined s (set bays k (record { place = (bay_in bays k).place; words = set (bay_in bays k).words j w }))
+    ≡ set_word (store_rejoined s bays) (bay_in bays k).place j w
 joined-set_word s bays k j w once l room =
     joined-set s bays k (set (bay_in bays k).words j w) once l
     ∙ ap (λ (ws : List ℕ). set_block (store_rejoined s bays) (bay_in bays k).place (set ws j w)) (sym (block_of-joined_bay s bays k once l room))

@@ -20,14 +20,16 @@ use Rattle.module_memory.proofs.Copies.{stands_or_not}
 use Rattle.module_memory.proofs.BayLaws.{place_in-places_of}
 
 -- the destination of the transfer at a position
-place_in-destinations_of : (batch : List Transfer) (numbers : List ℕ) (k : ℕ) → k < length numbers → place_in (destinations_of batch numbers) k ≡ destination_at batch (get_or numbers k 0)
+place_in-destinations_of : (batch : List Transfer) (numbers : List ℕ) (k : ℕ) → k < length numbers → place_in (destinations_of batch numbers) k
+    ≡ destination_at batch (get_or numbers k 0)
 place_in-destinations_of batch numbers k l = get_or-map (destination_at batch) numbers k 0 _ l
 
 length-destinations_of : (batch : List Transfer) (numbers : List ℕ) → length (destinations_of batch numbers) ≡ length numbers
 length-destinations_of batch numbers = length-map numbers (destination_at batch)
 
 -- transfers that don't overlap write different blocks
-pub destinations_lendable : (s : Store) (batch : List Transfer) (numbers : List ℕ) → IsReady s s batch numbers → AreLendable s.shape (destinations_of batch numbers)
+pub destinations_lendable : (s : Store) (batch : List Transfer) (numbers : List ℕ) → IsReady s s batch numbers
+    → AreLendable s.shape (destinations_of batch numbers)
 destinations_lendable s batch numbers r = record {
   exist = λ k l.
       let below : k < length numbers = omega (arith, length-destinations_of batch numbers) in
@@ -48,7 +50,8 @@ in_middle before numbers after i d l =
     ∙ ap (λ (x : ℕ). get_or numbers x d) (omega arith)
 
 -- the place of the bay at a position
-place-bays_of : (s : Store) (batch : List Transfer) (numbers : List ℕ) (k : ℕ) → k < length numbers → (bay_in (bays_of s (destinations_of batch numbers)) k).place ≡ destination_at batch (get_or numbers k 0)
+place-bays_of : (s : Store) (batch : List Transfer) (numbers : List ℕ) (k : ℕ) → k < length numbers
+    → (bay_in (bays_of s (destinations_of batch numbers)) k).place ≡ destination_at batch (get_or numbers k 0)
 place-bays_of s batch numbers k l =
     let places = destinations_of batch numbers in
     sym (place_in-places_of (bays_of s places) k (omega (arith, length-destinations_of batch numbers, length-map places (λ (p : Place). bay_at s p))))
@@ -61,7 +64,8 @@ settings_have_bays s batch before numbers after r =
     let places = destinations_of batch all in
     let lendable = destinations_lendable s batch all r in
     let short = length-map numbers (transfer_at batch) in
-    let sums : length all ≡ length before + length numbers + length after = omega (arith, length-append (before ++ numbers) after, length-append before numbers) in
+    let sums : length all ≡ length before + length numbers + length after =
+    omega (arith, length-append (before ++ numbers) after, length-append before numbers) in
     let long : length (bays_of s places) ≡ length all = omega (arith, length-destinations_of batch all, length-map places (λ (p : Place). bay_at s p)) in
     let known : (i : ℕ) → i < length numbers → get_or numbers i 0 < length batch =
     λ i l. subst (λ (t : ℕ). t < length batch) (in_middle before numbers after i 0 l) (r.setting.known (length before + i) 0 (omega arith)) in (
@@ -86,22 +90,28 @@ pub else_block : (xs ys : List ℕ) → xs ≡ [] → or_else xs ys ≡ ys
 else_block xs ys e = ap (λ (zs : List ℕ). or_else zs ys) e
 
 -- a block that the batch doesn't write isn't lent
-unlent : (s : Store) (batch : List Transfer) (numbers : List ℕ) (p : Place) → IsReady s s batch numbers → HasPlace s.shape p → IsUnwritten batch p → IsOff s.shape (destinations_of batch numbers) p
+unlent : (s : Store) (batch : List Transfer) (numbers : List ℕ) (p : Place) → IsReady s s batch numbers → HasPlace s.shape p → IsUnwritten batch p
+    → IsOff s.shape (destinations_of batch numbers) p
 unlent s batch numbers p r hp none = λ k l e.
     let below : k < length numbers = omega (arith, length-destinations_of batch numbers) in
     let t = get_or numbers k 0 in
     let known : t < length batch = r.setting.known k 0 below in
-    none t known (same_place_from_index s.shape (destination_at batch t) p (r.places t known).1 hp (ap (place_index s.shape) (sym (place_in-destinations_of batch numbers k below)) ∙ e))
+    none t known (same_place_from_index s.shape (destination_at batch t) p (r.places t known).1 hp
+    (ap (place_index s.shape) (sym (place_in-destinations_of batch numbers k below)) ∙ e))
 
 pub sources_are_found : SourcesAreFound
 sources_are_found s batch numbers held rest r store copies has t l =
     let p = source_at batch t in
     let hp : HasPlace s.shape p = (r.places t l).0 in
     let wide : length (block_of s p) ≡ s.shape.words = block_length s p r.whole hp in
-    let here : copy_of rest p ≡ copy_in s.shape rest.held p = ap (λ (x : ShapeView). copy_in x rest.held p) (ap (λ (x : Store). x.shape) store ∙ shape-without s (destinations_of batch numbers)) in
+    let here : copy_of rest p ≡ copy_in s.shape rest.held p = ap (λ (x : ShapeView). copy_in x rest.held p)
+    (ap (λ (x : Store). x.shape) store ∙ shape-without s (destinations_of batch numbers)) in
     elim (stands_or_not held p) [
-      | inl f ↦ copy_first (copy_of rest p) (block_of rest.store p) (block_of s p) (here ∙ subst (λ (q : Place). copy_in s.shape rest.held q ≡ block_of s q) f.2 (copies.copied f.0 f.1)) (omega (arith, wide, r.whole.within.some_word))
+      | inl f ↦ copy_first (copy_of rest p) (block_of rest.store p) (block_of s p) (here ∙ subst (λ (q : Place). copy_in s.shape rest.held q ≡ block_of s q) f.2
+          (copies.copied f.0 f.1)) (omega (arith, wide, r.whole.within.some_word))
       | inr none ↦ else_block (copy_of rest p) (block_of rest.store p) (here ∙ copies.others p hp none)
           ∙ ap (λ (x : Store). block_of x p) store
-          ∙ block_of-without s (destinations_of batch numbers) p (unlent s batch numbers p r hp (λ i m e. let held_it = (has.each p).1 ((t, l, refl), is_written-true batch i p m e) in none held_it.0 held_it.1 (get_or_default held held_it.0 _ _ held_it.1 ∙ held_it.2)))
+          ∙ block_of-without s (destinations_of batch numbers) p
+          (unlent s batch numbers p r hp (λ i m e. let held_it = (has.each p).1 ((t, l, refl), is_written-true batch i p m e) in none held_it.0 held_it.1
+          (get_or_default held held_it.0 _ _ held_it.1 ∙ held_it.2)))
     ]

@@ -1,5 +1,6 @@
 -- Images in which the blocks of a batch are placed.
-use Rattle.std.proofs.Common.{ℕ, zero, suc, ◌≡◌, ◌≢◌, ◌<◌, ◌≤◌, ◌+◌, ◌*◌, ◌^◌, inl, inr, List, [], ◌∷◌, ◌++◌, length, map, get_or, set, take, drop, refl, sym, ap, ap₂, ◌∙◌, subst, arith, length-set, length-take, length-drop, get_or-set_same, get_or-set_other}
+use Rattle.std.proofs.Common.{ℕ, zero, suc, ◌≡◌, ◌≢◌, ◌<◌, ◌≤◌, ◌+◌, ◌*◌, ◌^◌, inl, inr, List, [], ◌∷◌, ◌++◌, length, map, get_or, set, take, drop, refl, sym, ap, ap₂, ◌∙◌, subst, arith, length-set}
+use Rattle.std.proofs.Common.{length-take, length-drop, get_or-set_same, get_or-set_other}
 use Rattle.std.specs.Prelude.{All}
 use Rattle.std.specs.List.{flat_map, range_with_len}
 use Rattle.std.specs.Simd.{first_chunks}
@@ -29,27 +30,32 @@ pub record AreSourcesUpTo (shape : ShapeView) (ts : List Transfer) (n : ℕ) (so
   pub written : (i : ℕ) → i < n → get_or sources (place_index shape (destination_at ts i)) 0 ≡ place_index shape (source_at ts i)
   pub others : (p : Place) → HasPlace shape p → ((i : ℕ) → i < n → destination_at ts i ≢ p) → get_or sources (place_index shape p) 0 ≡ place_index shape p
 
-pub sources_more : (shape : ShapeView) (ts : List Transfer) (n to from : ℕ) (sources : List ℕ) → n < length ts → FitsIn shape ts → IsApart ts → to ≡ place_index shape (destination_at ts n) → from ≡ place_index shape (source_at ts n)
+pub sources_more : (shape : ShapeView) (ts : List Transfer) (n to from : ℕ) (sources : List ℕ) → n < length ts → FitsIn shape ts → IsApart ts → to
+    ≡ place_index shape (destination_at ts n) → from ≡ place_index shape (source_at ts n)
     → AreSourcesUpTo shape ts n sources → AreSourcesUpTo shape ts (n + 1) (set sources to from)
 sources_more shape ts n to from sources below fits apart et ef h =
     let dest = destination_at ts n in
     let there : to < length sources = omega (arith, et, h.each, place_index_below shape dest (fits n below).1) in
     let other : (p : Place) → HasPlace shape p → dest ≢ p → get_or (set sources to from) (place_index shape p) 0 ≡ get_or sources (place_index shape p) 0 =
-    λ p hp differ. get_or-set_other sources to (place_index shape p) from 0 (λ e. differ (same_place_from_index shape dest p (fits n below).1 hp (sym et ∙ sym e))) in
+    λ p hp differ. get_or-set_other sources to (place_index shape p) from 0
+    (λ e. differ (same_place_from_index shape dest p (fits n below).1 hp (sym et ∙ sym e))) in
     record {
       each = length-set sources to from ∙ h.each;
-      known = All-set (λ k. k < shape.modules * shape.blocks) sources to from (omega (arith, ef, place_index_below shape (source_at ts n) (fits n below).0)) h.known;
+      known = All-set (λ k. k < shape.modules * shape.blocks) sources to from (omega (arith, ef, place_index_below shape (source_at ts n) (fits n below).0))
+          h.known;
       written = λ i l. elim (cases_eq i n) [
         | inl same ↦ subst (λ (k : ℕ). get_or (set sources to from) (place_index shape (destination_at ts k)) 0 ≡ place_index shape (source_at ts k)) (sym same)
             (ap (λ (k : ℕ). get_or (set sources to from) k 0) (sym et) ∙ get_or-set_same sources to from 0 there ∙ ef)
         | inr differ ↦
             let less : i < n = omega arith in
-            other (destination_at ts i) (fits i (omega arith)).1 (λ e. apart i n (record { ordered = less; within = below; one_destination = sym e })) ∙ h.written i less
+            other (destination_at ts i) (fits i (omega arith)).1 (λ e. apart i n (record { ordered = less; within = below; one_destination = sym e }))
+            ∙ h.written i less
       ];
       others = λ p hp none. other p hp (none n (omega arith)) ∙ h.others p hp (λ i l. none i (omega arith));
     }
 
-pub sources_all : (shape : ShapeView) (ts : List Transfer) (n : ℕ) (sources : List ℕ) → n ≡ length ts → AreSourcesUpTo shape ts n sources → AreSources shape ts sources
+pub sources_all : (shape : ShapeView) (ts : List Transfer) (n : ℕ) (sources : List ℕ) → n ≡ length ts → AreSourcesUpTo shape ts n sources
+    → AreSources shape ts sources
 sources_all shape ts n sources e h = record {
   each = h.each;
   known = h.known;
@@ -88,11 +94,13 @@ unfolding blocks_of
 all_read words zero bytes = refl
 all_read words (suc n) bytes = ap suc (all_read words n (drop (4 * words) bytes))
 
-one_read : (words : ℕ) (bytes : List ℕ) → 4 * words ≤ length bytes → ((i : ℕ) → get_or bytes i 0 < 2 ^ 8) → bytes_of_block (map word_of_bytes (first_chunks 4 words (take (4 * words) bytes))) ≡ take (4 * words) bytes
+one_read : (words : ℕ) (bytes : List ℕ) → 4 * words ≤ length bytes → ((i : ℕ) → get_or bytes i 0 < 2 ^ 8)
+    → bytes_of_block (map word_of_bytes (first_chunks 4 words (take (4 * words) bytes))) ≡ take (4 * words) bytes
 one_read words bytes long small = bytes_again words (take (4 * words) bytes) (omega (arith, length-take (4 * words) bytes)) (small_take (4 * words) bytes small)
 
 -- whose bytes are these
-pub bytes_read : (words n : ℕ) (bytes : List ℕ) → length bytes ≡ 4 * words * n → ((i : ℕ) → get_or bytes i 0 < 2 ^ 8) → flat_map bytes_of_block (blocks_of words n bytes) ≡ bytes
+pub bytes_read : (words n : ℕ) (bytes : List ℕ) → length bytes ≡ 4 * words * n → ((i : ℕ) → get_or bytes i 0 < 2 ^ 8)
+    → flat_map bytes_of_block (blocks_of words n bytes) ≡ bytes
 unfolding blocks_of
 bytes_read words zero bytes e small = sym (nil_from_length bytes (omega arith))
 bytes_read words (suc n) bytes e small =
@@ -101,7 +109,8 @@ bytes_read words (suc n) bytes e small =
     (bytes_read words n (drop (4 * words) bytes) (omega (arith, length-drop (4 * words) bytes)) (λ i. rw get_or-drop (small (4 * words + i))))
     ∙ take-append-drop (4 * words) bytes
 
-pub long_read : (words n : ℕ) (bytes : List ℕ) → length bytes ≡ 4 * words * n → ((i : ℕ) → get_or bytes i 0 < 2 ^ 8) → (k : ℕ) → k < n → length (get_or (blocks_of words n bytes) k []) ≡ words
+pub long_read : (words n : ℕ) (bytes : List ℕ) → length bytes ≡ 4 * words * n → ((i : ℕ) → get_or bytes i 0 < 2 ^ 8) → (k : ℕ) → k < n
+    → length (get_or (blocks_of words n bytes) k []) ≡ words
 unfolding blocks_of
 long_read words zero bytes e small k l = absurd (omega arith)
 long_read words (suc n) bytes e small zero l =
@@ -129,7 +138,8 @@ read_store shape image = record { shape = shape; blocks = blocks_of shape.words 
 whole_length : (shape : ShapeView) (image : List ℕ) → length image ≡ image_length shape → length image ≡ 4 * shape.words * (shape.modules * shape.blocks)
 whole_length shape image whole = whole ∙ omega arith
 
-pub is_read : (shape : ShapeView) (image : List ℕ) → IsShape shape → length image ≡ image_length shape → ((i : ℕ) → get_or image i 0 < 2 ^ 8) → HasImage shape image (read_store shape image)
+pub is_read : (shape : ShapeView) (image : List ℕ) → IsShape shape → length image ≡ image_length shape → ((i : ℕ) → get_or image i 0 < 2 ^ 8)
+    → HasImage shape image (read_store shape image)
 is_read shape image valid whole small =
     let n = shape.modules * shape.blocks in
     let long = whole_length shape image whole in
@@ -153,7 +163,8 @@ abbrev pub placed_blocks : ShapeView → List ℕ → List ℕ → List (List �
 placed_blocks shape image sources = map (block_number shape image) sources
 
 -- the bytes of a block stand where its number says
-pub bytes_at : (shape : ShapeView) (image : List ℕ) (k from : ℕ) → length image ≡ image_length shape → ((i : ℕ) → get_or image i 0 < 2 ^ 8) → k < shape.modules * shape.blocks → from ≡ 4 * shape.words * k → take (4 * shape.words) (drop from image) ≡ bytes_of_block (block_number shape image k)
+pub bytes_at : (shape : ShapeView) (image : List ℕ) (k from : ℕ) → length image ≡ image_length shape → ((i : ℕ) → get_or image i 0 < 2 ^ 8)
+    → k < shape.modules * shape.blocks → from ≡ 4 * shape.words * k → take (4 * shape.words) (drop from image) ≡ bytes_of_block (block_number shape image k)
 bytes_at shape image k from whole small below at =
     let w = shape.words in
     let n = shape.modules * shape.blocks in
@@ -166,7 +177,8 @@ bytes_at shape image k from whole small below at =
     ∙ part_at bytes_of_block (4 * w) (4 * w) 0 (blocks_of w n image) [] k even (omega arith) (omega arith)
     ∙ take_all (4 * w) (bytes_of_block (block_number shape image k)) (let long_block = even k (omega arith) in omega (arith, long_block))
 
-pub is_placed_image : (shape : ShapeView) (image : List ℕ) (ts : List Transfer) (sources placed : List ℕ) → IsShape shape → length image ≡ image_length shape → ((i : ℕ) → get_or image i 0 < 2 ^ 8) → FitsIn shape ts → AreSources shape ts sources
+pub is_placed_image : (shape : ShapeView) (image : List ℕ) (ts : List Transfer) (sources placed : List ℕ) → IsShape shape → length image ≡ image_length shape
+    → ((i : ℕ) → get_or image i 0 < 2 ^ 8) → FitsIn shape ts → AreSources shape ts sources
     → placed ≡ flat_map bytes_of_block (placed_blocks shape image sources) → IsPlacedImage shape image ts placed
 is_placed_image shape image ts sources placed valid whole small fits are is =
     let n = shape.modules * shape.blocks in
@@ -179,25 +191,31 @@ is_placed_image shape image ts sources placed valid whole small fits are is =
       is_new = record {
         same_shape = refl;
         same_length = length-map sources (block_number shape image) ∙ are.each ∙ sym (all_read shape.words n image);
-        destinations = λ i l. there (place_index shape (destination_at ts i)) (place_index_below shape (destination_at ts i) (fits i l).1) ∙ ap (block_number shape image) (are.written i l);
+        destinations = λ i l. there (place_index shape (destination_at ts i)) (place_index_below shape (destination_at ts i) (fits i l).1)
+            ∙ ap (block_number shape image) (are.written i l);
         others = λ p hp none. there (place_index shape p) (place_index_below shape p hp) ∙ ap (block_number shape image) (are.others p hp none);
       };
       image_is = is;
     }
 
 -- one block more
-pub more_placed : (shape : ShapeView) (image : List ℕ) (sources : List ℕ) (i from : ℕ) (placed : List ℕ) → length image ≡ image_length shape → ((j : ℕ) → get_or image j 0 < 2 ^ 8) → All (λ k. k < shape.modules * shape.blocks) sources → i < length sources → from ≡ 4 * shape.words * get_or sources i 0
-    → placed ≡ flat_map bytes_of_block (placed_blocks shape image (take i sources)) → placed ++ take (4 * shape.words) (drop from image) ≡ flat_map bytes_of_block (placed_blocks shape image (take (i + 1) sources))
+pub more_placed : (shape : ShapeView) (image : List ℕ) (sources : List ℕ) (i from : ℕ) (placed : List ℕ) → length image ≡ image_length shape
+    → ((j : ℕ) → get_or image j 0 < 2 ^ 8) → All (λ k. k < shape.modules * shape.blocks) sources → i < length sources → from
+    ≡ 4 * shape.words * get_or sources i 0
+    → placed ≡ flat_map bytes_of_block (placed_blocks shape image (take i sources)) → placed ++ take (4 * shape.words) (drop from image)
+    ≡ flat_map bytes_of_block (placed_blocks shape image (take (i + 1) sources))
 more_placed shape image sources i from placed whole small known l at is =
     let k = get_or sources i 0 in
     let before = placed_blocks shape image (take i sources) in
     let block = block_number shape image k in
     ap₂ (λ (a b : List ℕ). a ++ b) is (bytes_at shape image k from whole small (known i 0 l) at)
     ∙ flat_map_more bytes_of_block [] before block
-    ∙ ap (flat_map bytes_of_block) (sym (ap (map (block_number shape image)) (take_more sources i 0 l) ∙ map-append (block_number shape image) (take i sources) (k ∷ [])))
+    ∙ ap (flat_map bytes_of_block)
+    (sym (ap (map (block_number shape image)) (take_more sources i 0 l) ∙ map-append (block_number shape image) (take i sources) (k ∷ [])))
 
 -- its bytes end within the image
-pub block_ends : (shape : ShapeView) (image sources : List ℕ) (i : ℕ) → length image ≡ image_length shape → All (λ k. k < shape.modules * shape.blocks) sources → i < length sources → 4 * shape.words * get_or sources i 0 + 4 * shape.words ≤ length image
+pub block_ends : (shape : ShapeView) (image sources : List ℕ) (i : ℕ) → length image ≡ image_length shape → All (λ k. k < shape.modules * shape.blocks) sources
+    → i < length sources → 4 * shape.words * get_or sources i 0 + 4 * shape.words ≤ length image
 block_ends shape image sources i whole known l =
     let less : get_or sources i 0 < shape.modules * shape.blocks = known i 0 l in
     let below : get_or sources i 0 + 1 ≤ shape.modules * shape.blocks = omega arith in

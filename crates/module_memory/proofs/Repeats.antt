@@ -28,7 +28,8 @@ none_come places n = record {
   differ = λ j k l m. absurd (omega (arith, m));
 }
 
-pub one_more : (places : List Place) (i : ℕ) (taken : List Bool) (at : ℕ) → at ≡ index_in places i → at < length taken → get_or taken at false ≡ false → HaveCome places i taken → HaveCome places (i + 1) (set taken at true)
+pub one_more : (places : List Place) (i : ℕ) (taken : List Bool) (at : ℕ) → at ≡ index_in places i → at < length taken → get_or taken at false ≡ false
+    → HaveCome places i taken → HaveCome places (i + 1) (set taken at true)
 one_more places i taken at e l down h = record {
   only = λ n up. elim (cases_eq n at) [
     | inl same ↦ (i, omega arith, sym e ∙ sym same)
@@ -43,7 +44,8 @@ one_more places i taken at e l down h = record {
   ];
   differ = λ j k l m same. elim (cases_eq k i) [
     | inl here ↦
-        let up : get_or taken at false ≡ true = subst (λ (n : ℕ). get_or taken n false ≡ true) (ap (place_index widest) (same ∙ ap (place_in places) here) ∙ sym e) (h.all j (omega (arith, l, here))) in
+        let up : get_or taken at false ≡ true = subst (λ (n : ℕ). get_or taken n false ≡ true) (ap (place_index widest) (same ∙ ap (place_in places) here)
+        ∙ sym e) (h.all j (omega (arith, l, here))) in
         absurd cc
     | inr before ↦ h.differ j k l (omega (arith, m, before)) same
   ];

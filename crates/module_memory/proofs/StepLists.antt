@@ -31,7 +31,12 @@ times-replicate_other (suc c) i j n = omega (arith, times_other j i (replicate c
 
 none_above : (m : ℕ → ℕ) (n i : ℕ) → n ≤ i → times i (steps_of m n) ≡ 0
 none_above m zero i l = refl
-none_above m (suc n) i l = omega (arith, times-append i (steps_of m n) (replicate (m n) n), none_above m n i (omega arith), times-replicate_other (m n) i n (λ e. omega arith))
+none_above m (suc n) i l = omega (
+  arith,
+  times-append i (steps_of m n) (replicate (m n) n),
+  none_above m n i (omega arith),
+  times-replicate_other (m n) i n (λ e. omega arith),
+)
 
 pub times-steps_of : (m : ℕ → ℕ) (n i : ℕ) → i < n → times i (steps_of m n) ≡ m i
 times-steps_of m zero i l = absurd (omega arith)
@@ -66,6 +71,13 @@ counts_are_reached opening s t batch numbers moved r few h =
     let n = length ts in
     let long = length-map numbers (transfer_at batch) in
     let steps = steps_of moved n in
-    let list : IsStepList ts s.shape.words steps = record { known = known moved n; bounded = λ i l. omega (arith, times-steps_of moved n i l, few i (omega (arith, long))) } in
-    let there = IsMoved-same opening s ts _ moved (run (found batch opening) ts (at_start s ts) steps).store (λ i l. times-steps_of moved n i l) (each_prefix opening s batch numbers r steps list) in
-    (steps, list, (λ i l. times-steps_of moved n i (omega (arith, long))), one_moved_from opening s t (run (found batch opening) ts (at_start s ts) steps).store ts moved (all_blocks s r.whole) h there)
+    let list : IsStepList ts s.shape.words steps =
+    record { known = known moved n; bounded = λ i l. omega (arith, times-steps_of moved n i l, few i (omega (arith, long))) } in
+    let there = IsMoved-same opening s ts _ moved (run (found batch opening) ts (at_start s ts) steps).store (λ i l. times-steps_of moved n i l)
+    (each_prefix opening s batch numbers r steps list) in (
+      steps,
+      list,
+      (λ i l. times-steps_of moved n i (omega (arith, long))),
+      one_moved_from opening s t (run (found batch opening) ts (at_start s ts) steps).store
+          ts moved (all_blocks s r.whole) h there,
+    )

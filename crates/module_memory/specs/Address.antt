@@ -1,13 +1,15 @@
 -- The addresses of a module's words: INMOS IMS T414 data sheet, memory map (the words are from
 -- `WINDOW_START` on, four bytes each).
 -- That a module has one window of blocks is this project's choice.
-use Rattle.std.specs.Prelude.{Bool, ℕ, ◌≡◌, ◌<◌, ◌+◌, ◌-◌, ◌*◌, ◌/◌, ◌%◌, ◌&&◌, ◌==◌, nat_lt, nat_le, Option, Some, None, if◌then◌else◌}
+use Rattle.std.specs.Prelude.{Bool, ℕ, ◌≡◌, ◌<◌, ◌+◌, ◌-◌, ◌*◌, ◌/◌, ◌%◌, ◌&&◌, ◌==◌, nat_lt}
+use Rattle.std.specs.Prelude.{nat_le, Option, Some, None, if◌then◌else◌}
 use Rattle.batch.specs.ShapeView.{ShapeView}
 use Rattle.batch.specs.declared.transfer.Place.{Place}
 use Rattle.batch.specs.Places.{HasPlace}
 use Rattle.module_memory.specs.declared.address.TheConstants.{WINDOW_START, WORD_BYTES}
 use Rattle.module_memory.specs.declared.fault.MemoryFault.{MemoryFault}
-use Rattle.module_memory.specs.declared.fault.MemoryFault.TheVariants.{NoModule, Misaligned, Outside}
+use Rattle.module_memory.specs.declared.fault.MemoryFault.TheVariants.{NoModule, Misaligned}
+use Rattle.module_memory.specs.declared.fault.MemoryFault.TheVariants.{Outside}
 use Rattle.module_memory.specs.Store.{Store, word, set_word}
 
 -- the address of word j of block b, in a window that begins at an address

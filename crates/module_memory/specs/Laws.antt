@@ -1,16 +1,21 @@
 -- What the laws state. Proofs use them; no contract of a call cites them.
-use Rattle.std.specs.Prelude.{ℕ, ◌≡◌, ◌≢◌, ◌<◌, ◌+◌, ◌≤◌, List, [], ◌++◌, length, slice_set, slice_index, Contains}
+use Rattle.std.specs.Prelude.{ℕ, ◌≡◌, ◌≢◌, ◌<◌, ◌+◌, ◌≤◌, List, [], ◌++◌, length, slice_set}
+use Rattle.std.specs.Prelude.{slice_index, Contains}
 use Rattle.batch.specs.ShapeView.{ShapeView}
 use Rattle.batch.specs.declared.transfer.Place.{Place}
 use Rattle.batch.specs.Places.{HasPlace}
 use Rattle.module_memory.specs.Store.{Store, set_word, IsWhole, block_of, HasAllBlocks, word}
 use Rattle.batch.specs.declared.transfer.Transfer.{Transfer}
 use Rattle.batch.specs.Held.{AreHeldSources}
-use Rattle.module_memory.specs.Core.{IsMovedFrom, IsReady, setting_of, at_start, run, times, IsStepList, IsComplete, IsPlacedFrom, found, IsMoved, IsPlaced}
-use Rattle.module_memory.specs.Lending.{BlockAt, place_in, bay_in, AreLendable, RestView, AreCopies, found_in, bays_of, without, store_rejoined, Rejoins}
+use Rattle.module_memory.specs.Core.{IsMovedFrom, IsReady, setting_of, at_start, run, times}
+use Rattle.module_memory.specs.Core.{IsStepList, IsComplete, IsPlacedFrom, found, IsMoved, IsPlaced}
+use Rattle.module_memory.specs.Lending.{BlockAt, place_in, bay_in, AreLendable, RestView, AreCopies}
+use Rattle.module_memory.specs.Lending.{found_in, bays_of, without, store_rejoined, Rejoins}
 use Rattle.std.specs.List.{concat}
-use Rattle.module_memory.specs.Images.{image_of, image_length, word_in_image, word_of_bytes, AreWords, HasImage}
-use Rattle.module_memory.specs.Bays.{AreBaysOf, AreFilled, AreFound, AreLent, AreSamePlaces, destinations_of}
+use Rattle.module_memory.specs.Images.{image_of, image_length, word_in_image, word_of_bytes}
+use Rattle.module_memory.specs.Images.{AreWords, HasImage}
+use Rattle.module_memory.specs.Bays.{AreBaysOf, AreFilled, AreFound, AreLent, AreSamePlaces}
+use Rattle.module_memory.specs.Bays.{destinations_of}
 use Rattle.module_memory.specs.Mark.{IsMarked}
 use Rattle.module_memory.specs.Settings.{IsRun, IsStoppedRun, after_steps, all_words}
 

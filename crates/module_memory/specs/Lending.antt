@@ -1,11 +1,13 @@
 -- A rack of which some blocks are lent: bays that own the words of their blocks, and the rest. This
 -- project's choice.
-use Rattle.std.specs.Prelude.{ℕ, ◌≡◌, ◌≢◌, ◌<◌, ◌⊎◌, List, [], ◌∷◌, length, map, slice_index_or, slice_set, All}
+use Rattle.std.specs.Prelude.{ℕ, ◌≡◌, ◌≢◌, ◌<◌, ◌⊎◌, List, [], ◌∷◌, length, map, slice_index_or}
+use Rattle.std.specs.Prelude.{slice_set, All}
 use Rattle.batch.specs.ShapeView.{ShapeView}
 use Rattle.batch.specs.declared.transfer.Place.{Place}
 use Rattle.batch.specs.Places.{HasPlace, place_index}
 use Rattle.module_memory.specs.declared.fault.LendFault.{LendFault}
-use Rattle.module_memory.specs.declared.fault.LendFault.TheVariants.{SamePlace, NoPlace, NoHeld, NoMemory}
+use Rattle.module_memory.specs.declared.fault.LendFault.TheVariants.{SamePlace, NoPlace, NoHeld}
+use Rattle.module_memory.specs.declared.fault.LendFault.TheVariants.{NoMemory}
 use Rattle.module_memory.specs.Store.{Store, IsWhole, block_of, set_block}
 
 -- a block: where it stands, and its words

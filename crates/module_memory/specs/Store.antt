@@ -1,5 +1,6 @@
 -- The words of a rack's modules. The blocks and their order are this project's choice.
-use Rattle.std.specs.Prelude.{ℕ, ◌≡◌, ◌<◌, ◌*◌, List, [], length, slice_index, slice_index_or, slice_get, slice_set, replicate, Option}
+use Rattle.std.specs.Prelude.{ℕ, ◌≡◌, ◌<◌, ◌*◌, List, [], length, slice_index, slice_index_or}
+use Rattle.std.specs.Prelude.{slice_get, slice_set, replicate, Option}
 use Rattle.batch.specs.ShapeView.{ShapeView, IsShape}
 use Rattle.batch.specs.declared.transfer.Place.{Place}
 use Rattle.batch.specs.Places.{HasPlace, place_index}

@@ -1,4 +1,5 @@
-ghost use Rattle.std.specs.Prelude.{◌≡◌, ◌<◌, ◌+◌, ◌*◌, ◌%◌, ◌^◌, ◌↔◌, ℕ, ◌++◌, [], IsTrue, length, replicate, slice_index, slice_set, slice_get, IfOk};
+ghost use Rattle.std.specs.Prelude.{◌≡◌, ◌<◌, ◌+◌, ◌*◌, ◌%◌, ◌^◌, ◌↔◌, ℕ, ◌++◌, [], IsTrue, length};
+ghost use Rattle.std.specs.Prelude.{replicate, slice_index, slice_set, slice_get, IfOk};
 ghost use Rattle.std.specs.List.{range_with_len};
 ghost use Rattle.module_memory.specs.Images.{bytes_of_block};
 

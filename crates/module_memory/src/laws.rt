@@ -1,6 +1,11 @@
 //! Laws of a rack's memories and of the machine that moves their words. They make no call.
 
-ghost use Rattle.module_memory.specs.Laws.{BaysAreWide, BaysHoldTheCounts, BaysStayLent, BaysStayWhole, LentBlockIsGone, LentBlockIsItsBay, OtherBlockIsTheRest, SetIsOneWord, SettingsHaveBays, SourcesAreFound, EachPrefix, EndIsPlaced, ImagesAreWhole, OneEnd, OneImaged, OneMoved, OnePlaced, OneMarked, WordsAreInImages};
+ghost use Rattle.module_memory.specs.Laws.{BaysAreWide, BaysHoldTheCounts, BaysStayLent};
+ghost use Rattle.module_memory.specs.Laws.{BaysStayWhole, LentBlockIsGone, LentBlockIsItsBay};
+ghost use Rattle.module_memory.specs.Laws.{OtherBlockIsTheRest, SetIsOneWord, SettingsHaveBays};
+ghost use Rattle.module_memory.specs.Laws.{SourcesAreFound, EachPrefix, EndIsPlaced};
+ghost use Rattle.module_memory.specs.Laws.{ImagesAreWhole, OneEnd, OneImaged, OneMoved, OnePlaced};
+ghost use Rattle.module_memory.specs.Laws.{OneMarked, WordsAreInImages};
 
 /// Where a batch doesn't overlap, the order in which the words of a setting move doesn't matter. A
 /// source that the batch writes is found in an opening store, and any other in the store as it is;

@@ -1,16 +1,12 @@
 //! Whether blocks can be lent.
 
-ghost use Rattle.std.specs.Prelude.{◌≡◌, ◌<◌, length, MatchOption};
-ghost use Rattle.batch.specs.ShapeView.{widest};
-ghost use Rattle.batch.specs.Places.{HasPlace, place_index};
-ghost use Rattle.module_memory.specs.Lending.{AreLendable, DifferBefore, ExistBefore, IsFirstMissing, IsFirstRepeated, IsLendFault};
+ghost use Rattle.std.specs.Prelude.{length, MatchOption};
+ghost use Rattle.module_memory.specs.Lending.{AreLendable, DifferBefore, ExistBefore};
+ghost use Rattle.module_memory.specs.Lending.{IsFirstMissing, IsFirstRepeated, IsLendFault};
 
 use crate::address::find_block;
 use crate::fault::LendFault;
-use batch::{MAX_BLOCKS, MAX_MODULES, Place, Shape};
-
-/// How many blocks the widest shape has.
-const MAX_RACK_BLOCKS: usize = MAX_MODULES * MAX_BLOCKS;
+use batch::{MAX_RACK_BLOCKS, Place, Shape, widest_index};
 
 /// The first place that the shape hasn't.
 fn first_missing(shape: Shape, places: &[Place]) -> Option<usize>
@@ -26,15 +22,6 @@ fn first_missing(shape: Shape, places: &[Place]) -> Option<usize>
     None
 }
 
-/// Where a block stands among those of the widest shape.
-fn widest_index(shape: Shape, place: Place) -> usize
-    requires { HasPlace shape place }
-    ensures value { result ≡ place_index widest place }
-    ensures below { result < MAX_RACK_BLOCKS }
-{
-    place.module * MAX_BLOCKS + place.block
-}
-
 /// The first place that stands before too. The shape has all of them.
 fn first_repeated(shape: Shape, places: &[Place]) -> Option<usize>
     requires { ExistBefore shape places.now (length places.now) }
@@ -44,7 +31,7 @@ fn first_repeated(shape: Shape, places: &[Place]) -> Option<usize>
 {
     let mut taken = [false; MAX_RACK_BLOCKS];
     for i in 0..places.len() {
-        let index = widest_index(shape, places[i]);
+        let index = widest_index(places[i]);
         if taken[index] {
             return Some(i);
         }

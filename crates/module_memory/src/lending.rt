@@ -4,7 +4,8 @@ ghost use Rattle.std.specs.Prelude.{◌≡◌, ◌<◌, ◌*◌, [], length, sli
 ghost use Rattle.batch.specs.ShapeView.{IsShape};
 ghost use Rattle.batch.specs.Places.{HasPlace};
 ghost use Rattle.module_memory.specs.Store.{block_of, find_word, set_block};
-ghost use Rattle.module_memory.specs.Lending.{AreWholeCopies, HasCopy, Rejoins, copy_of, store_rejoined, with_word};
+ghost use Rattle.module_memory.specs.Lending.{AreWholeCopies, HasCopy, Rejoins, copy_of};
+ghost use Rattle.module_memory.specs.Lending.{store_rejoined, with_word};
 
 use crate::address::{block_index, find_block};
 use crate::block::Block;

@@ -1,11 +1,14 @@
 //! The memories of all modules.
 
-ghost use Rattle.std.specs.Prelude.{◌≡◌, ◌≢◌, ◌<◌, true, false, length, IfOk, IfErr, MatchOption, MatchResult};
+ghost use Rattle.std.specs.Prelude.{◌≡◌, ◌≢◌, ◌<◌, true, false, length, IfOk, IfErr, MatchOption};
+ghost use Rattle.std.specs.Prelude.{MatchResult};
 ghost use Rattle.batch.specs.Places.{HasPlace};
 ghost use Rattle.module_memory.specs.Store.{IsWhole, block_of, zeros_of};
 ghost use Rattle.module_memory.specs.Address.{IsMemoryFault, IsWordAt, IsWrittenAt};
 ghost use Rattle.module_memory.specs.Mark.{IsMarked};
-ghost use Rattle.module_memory.specs.Lending.{AreCopies, AreLendable, AreWholeCopies, ExistBefore, IsLendFault, bays_of, without, store_rejoined, Rejoins};
+ghost use Rattle.module_memory.specs.Lending.{AreCopies, AreLendable, AreWholeCopies, ExistBefore};
+ghost use Rattle.module_memory.specs.Lending.{IsLendFault, bays_of, without, store_rejoined};
+ghost use Rattle.module_memory.specs.Lending.{Rejoins};
 ghost use Rattle.module_memory.specs.Bays.{AreLent};
 
 use crate::address::{block_index, find_block, site_of};

@@ -26,8 +26,10 @@ sender : Kind → End
 sender Push = Zero
 sender Pull = Three
 
-sender_is : (kind : Kind) (i o r f : ℕ) (late : Bool) (k : ℕ) → let x : Transfer = record { kind = kind; initiator = i; own_block = o; responder = r; far_block = f } in
-    let order = order_at late k (sender kind) x in (module_at (sender kind) x ≡ (source_of x).«module») × (order.block ≡ (source_of x).block) × (order.act ≡ sending late)
+sender_is : (kind : Kind) (i o r f : ℕ) (late : Bool) (k : ℕ) → let x : Transfer =
+    record { kind = kind; initiator = i; own_block = o; responder = r; far_block = f } in
+    let order = order_at late k (sender kind) x in (module_at (sender kind) x ≡ (source_of x).«module») × (order.block ≡ (source_of x).block)
+    × (order.act ≡ sending late)
 unfolding sender
 sender_is Push i o r f late k = (refl, refl, refl)
 sender_is Pull i o r f late k = (refl, refl, refl)
@@ -40,20 +42,26 @@ unfolding copies_in
 in_copies orders b l up = to_filter (is_copied orders) (range_with_len 0 MAX_BLOCKS) b (to_range MAX_BLOCKS b l) up
 
 -- a module that sends a copy has made it
-is_aside_from : (told : RackTold) (k : ℕ) (link : Link) (o : Order) (p : Place) → HasOrder told k link o → link.«module» ≡ p.«module» → o.block ≡ p.block → o.act ≡ SendCopy → p.block < MAX_BLOCKS → is_aside told p ≡ true
+is_aside_from : (told : RackTold) (k : ℕ) (link : Link) (o : Order) (p : Place) → HasOrder told k link o → link.«module» ≡ p.«module» → o.block ≡ p.block
+    → o.act ≡ SendCopy → p.block < MAX_BLOCKS → is_aside told p ≡ true
 unfolding orders_for
 is_aside_from told k link o p h number block act low =
     let among = in_filter (is_for k link) (flat_map (orders_to link.«module») told.modules) o h in
     let one = in_flat_map (orders_to link.«module») told.modules o among.0 in
     let mine = in_orders_to link.«module» one.0 o one.2 in
     let copied : is_copied one.0.orders p.block ≡ true = any_from (sends_copy p.block) one.0.orders o mine.1 (copy_sent o p.block block act) in
-    let inner : list_any (λ b. b == p.block) (copies_in one.0.orders) ≡ true = any_from (λ b. b == p.block) (copies_in one.0.orders) p.block (in_copies one.0.orders p.block low copied) (eq-eqb p.block p.block refl) in
+    let inner : list_any (λ b. b == p.block) (copies_in one.0.orders) ≡ true = any_from (λ b. b == p.block) (copies_in one.0.orders) p.block
+    (in_copies one.0.orders p.block low copied) (eq-eqb p.block p.block refl) in
     let has_it : ModuleTold → Bool = λ x. x.«module» == p.«module» && list_any (λ b. b == p.block) (copies_in x.orders) in
-    any_from has_it told.modules one.0 one.1 (and_from (one.0.«module» == p.«module») (list_any (λ b. b == p.block) (copies_in one.0.orders)) (eq-eqb one.0.«module» p.«module» (mine.0 ∙ number)) inner)
+    any_from has_it told.modules one.0 one.1 (and_from (one.0.«module» == p.«module») (list_any (λ b. b == p.block) (copies_in one.0.orders))
+    (eq-eqb one.0.«module» p.«module» (mine.0 ∙ number)) inner)
 
 -- so the block that a transfer sends late stands aside
-pub aside_by : (told : RackTold) (opening : Store) (k : ℕ) (late : Bool) (x : Transfer) → ((end : End) → HasOrder told k (link_at end x) (order_at late k end x)) → (source_of x).block < MAX_BLOCKS → late ≡ true → aside_of told opening (source_of x) ≡ block_of opening (source_of x)
+pub aside_by : (told : RackTold) (opening : Store) (k : ℕ) (late : Bool) (x : Transfer)
+    → ((end : End) → HasOrder told k (link_at end x) (order_at late k end x)) → (source_of x).block < MAX_BLOCKS → late ≡ true
+    → aside_of told opening (source_of x) ≡ block_of opening (source_of x)
 aside_by told opening k late x has low up =
     let end = sender x.kind in
     let is = sender_is x.kind x.initiator x.own_block x.responder x.far_block late k in
-    ap (λ (b : Bool). cond b (block_of opening (source_of x)) []) (is_aside_from told k (link_at end x) (order_at late k end x) (source_of x) (has end) is.0 is.1 (is.2 ∙ ap sending up) low)
+    ap (λ (b : Bool). cond b (block_of opening (source_of x)) []) (is_aside_from told k (link_at end x) (order_at late k end x) (source_of x) (has end) is.0
+    is.1 (is.2 ∙ ap sending up) low)

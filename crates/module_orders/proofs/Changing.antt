@@ -1,5 +1,6 @@
 -- The flags of the blocks that transfers change.
-use Rattle.std.proofs.Common.{ℕ, Bool, true, false, not, ◌&&◌, ◌||◌, ◌≡◌, ◌≢◌, ◌<◌, List, [], ◌∷◌, ◌++◌, length, get_or, set, replicate, refl, sym, ap, ap₂, ◌∙◌, append_assoc, subst, inl, inr, get_or-set_same, get_or-set_other}
+use Rattle.std.proofs.Common.{ℕ, Bool, true, false, not, ◌&&◌, ◌||◌, ◌≡◌, ◌≢◌, ◌<◌, List, [], ◌∷◌, ◌++◌, length, get_or, set, replicate, refl, sym, ap, ap₂, ◌∙◌, append_assoc, subst, inl, inr}
+use Rattle.std.proofs.Common.{get_or-set_same, get_or-set_other}
 use Rattle.std.proofs.Math.Bool.{and-not_self, or-false, or-true}
 use Rattle.std.proofs.lemmas.Bool.{false≢true}
 use Rattle.std.proofs.lemmas.List.Folds.{list_any-append}
@@ -44,7 +45,9 @@ pub none_changed : (n : ℕ) → AreChanged [] (replicate n false)
 none_changed n p hp = none_up n (place_index widest p)
 
 -- one transfer more that changes its block
-pub changed_more : (ts : List Transfer) (t : Transfer) (flags : List Bool) (k : ℕ) → k ≡ place_index widest (destination_of t) → HasPlace widest (destination_of t) → source_of t ≢ destination_of t → k < length flags → AreChanged ts flags → AreChanged (ts ++ t ∷ []) (set flags k true)
+pub changed_more : (ts : List Transfer) (t : Transfer) (flags : List Bool) (k : ℕ) → k ≡ place_index widest (destination_of t)
+    → HasPlace widest (destination_of t) → source_of t ≢ destination_of t → k < length flags → AreChanged ts flags
+    → AreChanged (ts ++ t ∷ []) (set flags k true)
 changed_more ts t flags k at hd ne l h p hp =
     let d = destination_of t in
     elim (same_place_tells d p) [
@@ -52,7 +55,8 @@ changed_more ts t flags k at hd ne l h p hp =
           let here : place_index widest p ≡ k = ap (place_index widest) (sym s.1) ∙ sym at in
           let up : get_or (set flags k true) k false ≡ true = get_or-set_same flags k true false l in
           let of_t : changes t p ≡ true = ap (changes t) (sym s.1) ∙ changes-own t ne in
-          ap (λ (n : ℕ). get_or (set flags k true) n false) here ∙ up ∙ sym (changed_by-push ts t p ∙ ap (λ (b : Bool). changed_by ts p || b) of_t ∙ or-true (changed_by ts p))
+          ap (λ (n : ℕ). get_or (set flags k true) n false) here ∙ up ∙ sym (changed_by-push ts t p ∙ ap (λ (b : Bool). changed_by ts p || b) of_t
+          ∙ or-true (changed_by ts p))
       | inr s ↦
           let apart : place_index widest p ≢ k = λ e. s.1 (same_place_from_index widest d p hd hp (sym at ∙ sym e)) in
           get_or-set_other flags k (place_index widest p) true false apart ∙ h p hp
@@ -60,13 +64,16 @@ changed_more ts t flags k at hd ne l h p hp =
     ]
 
 -- one more that changes nothing
-pub changed_skip : (ts : List Transfer) (t : Transfer) (flags : List Bool) → source_of t ≡ destination_of t → AreChanged ts flags → AreChanged (ts ++ t ∷ []) flags
+pub changed_skip : (ts : List Transfer) (t : Transfer) (flags : List Bool) → source_of t ≡ destination_of t → AreChanged ts flags
+    → AreChanged (ts ++ t ∷ []) flags
 changed_skip ts t flags e h p hp =
     h p hp ∙ sym (changed_by-push ts t p ∙ ap (λ (b : Bool). changed_by ts p || b) (changes-self t p e) ∙ or-false (changed_by ts p))
 
 -- the same after others
-pub then_one : (before ts all : List Transfer) (t : Transfer) (flags : List Bool) → all ≡ ts ++ t ∷ [] → AreChanged ((before ++ ts) ++ t ∷ []) flags → AreChanged (before ++ all) flags
-then_one before ts all t flags e h = subst (λ (xs : List Transfer). AreChanged xs flags) (append_assoc before ts (t ∷ []) ∙ ap (λ (xs : List Transfer). before ++ xs) (sym e)) h
+pub then_one : (before ts all : List Transfer) (t : Transfer) (flags : List Bool) → all ≡ ts ++ t ∷ [] → AreChanged ((before ++ ts) ++ t ∷ []) flags
+    → AreChanged (before ++ all) flags
+then_one before ts all t flags e h = subst (λ (xs : List Transfer). AreChanged xs flags)
+    (append_assoc before ts (t ∷ []) ∙ ap (λ (xs : List Transfer). before ++ xs) (sym e)) h
 
 -- what a test of two places tells
 pub told_apart : (p q : Place) (b : Bool) → b ≡ not (same_place p q) → b ≡ true → p ≢ q

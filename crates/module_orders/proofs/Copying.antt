@@ -39,7 +39,12 @@ numbers_up-copy_flags orders =
 
 count_by-map : (p : ℕ → Bool) (xs : List ℕ) → count_by (λ up. up) (map p xs) ≡ count_by p xs
 count_by-map p [] = refl
-count_by-map p (x ∷ xs) = omega (arith, sum_by-cons (λ (up : Bool). cond up 1 0) (p x) (map p xs), sum_by-cons (λ (n : ℕ). cond (p n) 1 0) x xs, count_by-map p xs)
+count_by-map p (x ∷ xs) = omega (
+  arith,
+  sum_by-cons (λ (up : Bool). cond up 1 0) (p x) (map p xs),
+  sum_by-cons (λ (n : ℕ). cond (p n) 1 0) x xs,
+  count_by-map p xs,
+)
 
 pub count-copy_flags : (orders : List Order) → count_by (λ up. up) (copy_flags orders) ≡ length (copies_in orders)
 unfolding copy_flags copies_in

@@ -24,16 +24,19 @@ line_more lines line = text_of-append lines (line ∷ []) ∙ ap (λ (x : List �
 filter-one : {X : Type 0} (p : X → Bool) (xs : List X) (x : X) (b : Bool) → p x ≡ b → filter p (xs ++ x ∷ []) ≡ filter p xs ++ cond b (x ∷ []) []
 filter-one {X} p xs x b e = filter-append p xs (x ∷ []) ∙ ap (λ (y : Bool). filter p xs ++ cond y (x ∷ []) []) e
 
-pub number_up : (p : ℕ → Bool) (n : ℕ) → p n ≡ true → text_of (map copy_line (filter p (range_with_len 0 (n + 1)))) ≡ text_of (map copy_line (filter p (range_with_len 0 n))) ++ ended (copy_line n)
+pub number_up : (p : ℕ → Bool) (n : ℕ) → p n ≡ true → text_of (map copy_line (filter p (range_with_len 0 (n + 1))))
+    ≡ text_of (map copy_line (filter p (range_with_len 0 n))) ++ ended (copy_line n)
 number_up p n up =
-    ap (λ (xs : List ℕ). text_of (map copy_line (filter p xs))) (range_more n) ∙ ap (λ (xs : List ℕ). text_of (map copy_line xs)) (filter-one p (range_with_len 0 n) n true up)
+    ap (λ (xs : List ℕ). text_of (map copy_line (filter p xs))) (range_more n) ∙ ap (λ (xs : List ℕ). text_of (map copy_line xs))
+    (filter-one p (range_with_len 0 n) n true up)
     ∙ ap text_of (map_push copy_line (filter p (range_with_len 0 n)) n) ∙ line_more (map copy_line (filter p (range_with_len 0 n))) (copy_line n)
 
 pub number_down : (p : ℕ → Bool) (n : ℕ) → p n ≡ false → filter p (range_with_len 0 (n + 1)) ≡ filter p (range_with_len 0 n)
 number_down p n down = ap (filter p) (range_more n) ∙ filter-one p (range_with_len 0 n) n false down ∙ append-nil (filter p (range_with_len 0 n))
 
 -- one module more that is told, or that isn't
-pub module_more : (p : ModuleTold → Bool) (xs : List ModuleTold) (i : ℕ) (x : ModuleTold) → i < length xs → x ≡ get_or xs i x → p x ≡ true → text_of (flat_map told_lines (filter p (take (i + 1) xs))) ≡ text_of (flat_map told_lines (filter p (take i xs))) ++ text_of (told_lines x)
+pub module_more : (p : ModuleTold → Bool) (xs : List ModuleTold) (i : ℕ) (x : ModuleTold) → i < length xs → x ≡ get_or xs i x → p x ≡ true
+    → text_of (flat_map told_lines (filter p (take (i + 1) xs))) ≡ text_of (flat_map told_lines (filter p (take i xs))) ++ text_of (told_lines x)
 module_more p xs i x l is up =
     ap (λ (ys : List ModuleTold). text_of (flat_map told_lines (filter p ys))) (take_more xs i x l ∙ ap (λ (y : ModuleTold). take i xs ++ y ∷ []) (sym is))
     ∙ ap (λ (ys : List ModuleTold). text_of (flat_map told_lines ys)) (filter-one p (take i xs) x true up)
@@ -41,25 +44,35 @@ module_more p xs i x l is up =
     ∙ ap (λ (ls : List (List ℕ)). text_of (flat_map told_lines (filter p (take i xs)) ++ ls)) (append-nil (told_lines x))
     ∙ text_of-append (flat_map told_lines (filter p (take i xs))) (told_lines x)
 
-pub module_skip : (p : ModuleTold → Bool) (xs : List ModuleTold) (i : ℕ) (x : ModuleTold) → i < length xs → x ≡ get_or xs i x → p x ≡ false → filter p (take (i + 1) xs) ≡ filter p (take i xs)
+pub module_skip : (p : ModuleTold → Bool) (xs : List ModuleTold) (i : ℕ) (x : ModuleTold) → i < length xs → x ≡ get_or xs i x → p x ≡ false
+    → filter p (take (i + 1) xs) ≡ filter p (take i xs)
 module_skip p xs i x l is down =
-    ap (filter p) (take_more xs i x l ∙ ap (λ (y : ModuleTold). take i xs ++ y ∷ []) (sym is)) ∙ filter-one p (take i xs) x false down ∙ append-nil (filter p (take i xs))
+    ap (filter p) (take_more xs i x l ∙ ap (λ (y : ModuleTold). take i xs ++ y ∷ []) (sym is)) ∙ filter-one p (take i xs) x false down
+    ∙ append-nil (filter p (take i xs))
 
 -- the lines of a module, part by part
-pub module_parts : (told : ModuleTold) → text_of (told_lines told) ≡ ended (module_line told.«module» (length (copies_in told.orders)) (length told.orders)) ++ (text_of (map copy_line (copies_in told.orders)) ++ text_of (map order_line told.orders))
-module_parts told = ap (λ (x : List ℕ). ended (module_line told.«module» (length (copies_in told.orders)) (length told.orders)) ++ x) (text_of-append (map copy_line (copies_in told.orders)) (map order_line told.orders))
+pub module_parts : (told : ModuleTold) → text_of (told_lines told) ≡ ended (module_line told.«module» (length (copies_in told.orders)) (length told.orders))
+    ++ (text_of (map copy_line (copies_in told.orders)) ++ text_of (map order_line told.orders))
+module_parts told = ap (λ (x : List ℕ). ended (module_line told.«module» (length (copies_in told.orders)) (length told.orders)) ++ x)
+    (text_of-append (map copy_line (copies_in told.orders)) (map order_line told.orders))
 
 -- text that was put part by part
-pub module_adds : (old first then_more new : List ℕ) (told : ModuleTold) → first ≡ old ++ ended (module_line told.«module» (length (copies_in told.orders)) (length told.orders)) → then_more ≡ first ++ text_of (map copy_line (copies_in told.orders)) → new ≡ then_more ++ text_of (map order_line told.orders) → new ≡ old ++ text_of (told_lines told)
+pub module_adds : (old first then_more new : List ℕ) (told : ModuleTold) → first ≡ old
+    ++ ended (module_line told.«module» (length (copies_in told.orders)) (length told.orders)) → then_more ≡ first
+    ++ text_of (map copy_line (copies_in told.orders)) → new ≡ then_more ++ text_of (map order_line told.orders) → new ≡ old ++ text_of (told_lines told)
 module_adds old first then_more new told a b c =
     let head = ended (module_line told.«module» (length (copies_in told.orders)) (length told.orders)) in
     let copies = text_of (map copy_line (copies_in told.orders)) in
     let orders = text_of (map order_line told.orders) in
-    then_adds old first new head (copies ++ orders) (text_of (told_lines told)) a (c ∙ ap (λ (x : List ℕ). x ++ orders) b ∙ append_assoc first copies orders) (module_parts told)
+    then_adds old first new head (copies ++ orders) (text_of (told_lines told)) a (c ∙ ap (λ (x : List ℕ). x ++ orders) b ∙ append_assoc first copies orders)
+    (module_parts told)
 
 -- the text of all modules that are told
-pub rack_adds : (only : Option ℕ) (settings count : ℕ) (modules : List ModuleTold) (head text : List ℕ) → count ≡ count_by (is_told only) modules → head ≡ ended (modules_line count settings) → text ≡ head ++ text_of (flat_map told_lines (filter (is_told only) modules)) → text ≡ orders_text (told_to only (rack_told settings modules))
+pub rack_adds : (only : Option ℕ) (settings count : ℕ) (modules : List ModuleTold) (head text : List ℕ) → count ≡ count_by (is_told only) modules → head
+    ≡ ended (modules_line count settings) → text ≡ head ++ text_of (flat_map told_lines (filter (is_told only) modules)) → text
+    ≡ orders_text (told_to only (rack_told settings modules))
 unfolding orders_text
 rack_adds only settings count modules head text counted is all =
     let told = filter (is_told only) modules in
-    all ∙ ap (λ (x : List ℕ). x ++ text_of (flat_map told_lines told)) (is ∙ ap (λ (n : ℕ). ended (modules_line n settings)) (counted ∙ sym (length-filter (is_told only) modules)))
+    all ∙ ap (λ (x : List ℕ). x ++ text_of (flat_map told_lines told))
+    (is ∙ ap (λ (n : ℕ). ended (modules_line n settings)) (counted ∙ sym (length-filter (is_told only) modules)))

@@ -44,7 +44,8 @@ pub record IsOver (batch : List Transfer) (settings : List (List ℕ)) (k : ℕ)
 -- ---- of which transfer an order is
 
 -- what is told of a module
-pub told_is : (batch : List Transfer) (settings : List (List ℕ)) (told : ModuleTold) → Contains (all_told batch settings).modules told → (m : ℕ) × (m < MAX_MODULES) × (told ≡ module_told m (orders_before batch settings (length settings) m))
+pub told_is : (batch : List Transfer) (settings : List (List ℕ)) (told : ModuleTold) → Contains (all_told batch settings).modules told → (m : ℕ)
+    × (m < MAX_MODULES) × (told ≡ module_told m (orders_before batch settings (length settings) m))
 unfolding orders_of all_modules
 told_is batch settings told c =
     let f : ℕ → ModuleTold = λ m. module_told m (orders_before batch settings (length settings) m) in
@@ -52,8 +53,10 @@ told_is batch settings told c =
     let one = in_map f (range_with_len 0 MAX_MODULES) told among.0 in
     (one.0, in_range MAX_MODULES one.0 one.1, sym one.2)
 
-pub over_is : (changed : Place → Bool) (k : ℕ) (end : End) (batch : List Transfer) (numbers : List ℕ) (m : ℕ) (o : Order) → Contains (orders_over changed k end (setting_of batch numbers) m) o
-    → (t : ℕ) × Contains numbers t × (module_at end (transfer_at batch t) ≡ m) × (o ≡ order_at (changed (source_of (transfer_at batch t))) k end (transfer_at batch t))
+pub over_is : (changed : Place → Bool) (k : ℕ) (end : End) (batch : List Transfer) (numbers : List ℕ) (m : ℕ) (o : Order)
+    → Contains (orders_over changed k end (setting_of batch numbers) m) o
+    → (t : ℕ) × Contains numbers t × (module_at end (transfer_at batch t) ≡ m)
+    × (o ≡ order_at (changed (source_of (transfer_at batch t))) k end (transfer_at batch t))
 over_is changed k end batch numbers m o c =
     let h : Transfer → Order = λ x. order_at (changed (source_of x)) k end x in
     let one = in_map h (filter (λ x. module_at end x == m) (setting_of batch numbers)) o c in
@@ -65,7 +68,8 @@ over_is changed k end batch numbers m o c =
 pub of_end : (part : End → List Order) (o : Order) → Contains (part Zero ++ part Three) o → (end : End) × Contains (part end) o
 of_end part o c = elim (Contains-append_cases (part Zero) (part Three) o c) [ inl a ↦ (Zero, a) | inr b ↦ (Three, b) ]
 
-pub before_is : (batch : List Transfer) (settings : List (List ℕ)) (m : ℕ) (o : Order) → Contains (orders_before batch settings (length settings) m) o → (k : ℕ) (link : Link) → o.setting ≡ k → o.end ≡ link.end → m ≡ link.«module»
+pub before_is : (batch : List Transfer) (settings : List (List ℕ)) (m : ℕ) (o : Order) → Contains (orders_before batch settings (length settings) m) o
+    → (k : ℕ) (link : Link) → o.setting ≡ k → o.end ≡ link.end → m ≡ link.«module»
     → (t : ℕ) × IsOver batch settings k link t × (o ≡ given batch settings k link.end t)
 before_is batch settings m o c k link when over number =
     let one = in_flat_map (orders_in batch settings m) (range_with_len 0 (length settings)) o c in
@@ -96,15 +100,17 @@ same_end_self Zero = refl
 same_end_self Three = refl
 
 pub in_orders_to : (m : ℕ) (told : ModuleTold) (o : Order) → Contains (orders_to m told) o → (told.«module» ≡ m) × Contains told.orders o
-in_orders_to m told o c = elim (told.«module» == m) as (λ b. told.«module» == m ≡ b → Contains (cond b told.orders []) o → (told.«module» ≡ m) × Contains told.orders o) [
-  | true ↦ λ e d. (eqb-true told.«module» m e, d)
-  | false ↦ λ e d. absurd (omega (arith, d.1))
-] refl c
+in_orders_to m told o c = elim (told.«module» == m) as (λ b. told.«module» == m ≡ b → Contains (cond b told.orders []) o → (told.«module» ≡ m)
+    × Contains told.orders o) [
+      | true ↦ λ e d. (eqb-true told.«module» m e, d)
+      | false ↦ λ e d. absurd (omega (arith, d.1))
+    ] refl c
 
 pub to_orders_to : (m : ℕ) (orders : List Order) (o : Order) → Contains orders o → Contains (orders_to m (module_told m orders)) o
 to_orders_to m orders o c = subst (λ (b : Bool). Contains (cond b orders []) o) (sym (eq-eqb m m refl)) c
 
-pub origin : (batch : List Transfer) (settings : List (List ℕ)) (k : ℕ) (link : Link) (o : Order) → HasOrder (all_told batch settings) k link o → (t : ℕ) × IsOver batch settings k link t × (o ≡ given batch settings k link.end t)
+pub origin : (batch : List Transfer) (settings : List (List ℕ)) (k : ℕ) (link : Link) (o : Order) → HasOrder (all_told batch settings) k link o → (t : ℕ)
+    × IsOver batch settings k link t × (o ≡ given batch settings k link.end t)
 unfolding orders_for
 origin batch settings k link o h =
     let modules = (all_told batch settings).modules in
@@ -113,12 +119,14 @@ origin batch settings k link o h =
     let mine = in_orders_to link.«module» one.0 o one.2 in
     let for_it = and_parts (o.setting == k) (same_end o.end link.end) among.1 in
     let told = told_is batch settings one.0 one.1 in
-    before_is batch settings told.0 o (subst (λ (x : ModuleTold). Contains x.orders o) told.2 mine.1) k link (eqb-true o.setting k for_it.0) (same_end_tells o.end link.end for_it.1)
+    before_is batch settings told.0 o (subst (λ (x : ModuleTold). Contains x.orders o) told.2 mine.1) k link (eqb-true o.setting k for_it.0)
+    (same_end_tells o.end link.end for_it.1)
     (sym (ap (λ (x : ModuleTold). x.«module») told.2) ∙ mine.0)
 
 -- ---- the orders of a transfer
 
-given_over : (changed : Place → Bool) (k : ℕ) (end : End) (batch : List Transfer) (numbers : List ℕ) (t : ℕ) → Contains numbers t → let x = transfer_at batch t in Contains (orders_over changed k end (setting_of batch numbers) (module_at end x)) (order_at (changed (source_of x)) k end x)
+given_over : (changed : Place → Bool) (k : ℕ) (end : End) (batch : List Transfer) (numbers : List ℕ) (t : ℕ) → Contains numbers t → let x =
+    transfer_at batch t in Contains (orders_over changed k end (setting_of batch numbers) (module_at end x)) (order_at (changed (source_of x)) k end x)
 given_over changed k end batch numbers t c =
     let x = transfer_at batch t in
     let m = module_at end x in
@@ -130,26 +138,35 @@ either_end : (part : End → List Order) (end : End) (o : Order) → Contains (p
 either_end part Zero o c = Contains-append_left (part Zero) (part Three) o c
 either_end part Three o c = Contains-append_right (part Zero) (part Three) o c
 
-in_setting : (batch : List Transfer) (settings : List (List ℕ)) (k : ℕ) (end : End) (t : ℕ) → Contains (numbers_in settings k) t → Contains (orders_in batch settings (module_at end (transfer_at batch t)) k) (given batch settings k end t)
+in_setting : (batch : List Transfer) (settings : List (List ℕ)) (k : ℕ) (end : End) (t : ℕ) → Contains (numbers_in settings k) t
+    → Contains (orders_in batch settings (module_at end (transfer_at batch t)) k) (given batch settings k end t)
 in_setting batch settings k end t c =
     let part = λ (e : End). orders_over (is_changed batch settings k) k e (setting_of batch (numbers_in settings k)) (module_at end (transfer_at batch t)) in
     either_end part end (given batch settings k end t) (given_over (is_changed batch settings k) k end batch (numbers_in settings k) t c)
 
 -- a module has the order
-pub is_given : (batch : List Transfer) (settings : List (List ℕ)) (k : ℕ) (end : End) (t : ℕ) → k < length settings → Contains (numbers_in settings k) t → Contains (orders_before batch settings (length settings) (module_at end (transfer_at batch t))) (given batch settings k end t)
+pub is_given : (batch : List Transfer) (settings : List (List ℕ)) (k : ℕ) (end : End) (t : ℕ) → k < length settings → Contains (numbers_in settings k) t
+    → Contains (orders_before batch settings (length settings) (module_at end (transfer_at batch t))) (given batch settings k end t)
 is_given batch settings k end t l c =
     let m = module_at end (transfer_at batch t) in
-    to_flat_map (orders_in batch settings m) (range_with_len 0 (length settings)) k (given batch settings k end t) (to_range (length settings) k l) (in_setting batch settings k end t c)
+    to_flat_map (orders_in batch settings m) (range_with_len 0 (length settings)) k (given batch settings k end t) (to_range (length settings) k l)
+    (in_setting batch settings k end t c)
 
 -- a module with an order is told
-pub is_among : (batch : List Transfer) (settings : List (List ℕ)) (m : ℕ) (o : Order) → m < MAX_MODULES → Contains (orders_before batch settings (length settings) m) o → Contains (all_told batch settings).modules (module_told m (orders_before batch settings (length settings) m))
+pub is_among : (batch : List Transfer) (settings : List (List ℕ)) (m : ℕ) (o : Order) → m < MAX_MODULES
+    → Contains (orders_before batch settings (length settings) m) o → Contains (all_told batch settings).modules
+    (module_told m (orders_before batch settings (length settings) m))
 unfolding orders_of all_modules
 is_among batch settings m o low c =
     let f : ℕ → ModuleTold = λ n. module_told n (orders_before batch settings (length settings) n) in
-    let some : nat_lt 0 (length (orders_before batch settings (length settings) m)) ≡ true = lt-ltb 0 (length (orders_before batch settings (length settings) m)) (omega (arith, c.1)) in
-    to_filter (is_told None) (map f (range_with_len 0 MAX_MODULES)) (f m) (to_map f (range_with_len 0 MAX_MODULES) m (to_range MAX_MODULES m low)) (rw some refl)
+    let some : nat_lt 0 (length (orders_before batch settings (length settings) m)) ≡ true =
+    lt-ltb 0 (length (orders_before batch settings (length settings) m)) (omega (arith, c.1)) in
+    to_filter (is_told None) (map f (range_with_len 0 MAX_MODULES)) (f m) (to_map f (range_with_len 0 MAX_MODULES) m (to_range MAX_MODULES m low))
+    (rw some refl)
 
-pub gives : (batch : List Transfer) (settings : List (List ℕ)) (k : ℕ) (end : End) (t : ℕ) → k < length settings → Contains (numbers_in settings k) t → module_at end (transfer_at batch t) < MAX_MODULES → HasOrder (all_told batch settings) k (link_at end (transfer_at batch t)) (given batch settings k end t)
+pub gives : (batch : List Transfer) (settings : List (List ℕ)) (k : ℕ) (end : End) (t : ℕ) → k < length settings → Contains (numbers_in settings k) t
+    → module_at end (transfer_at batch t) < MAX_MODULES → HasOrder (all_told batch settings) k (link_at end (transfer_at batch t))
+    (given batch settings k end t)
 unfolding orders_for
 gives batch settings k end t l c low =
     let link = link_at end (transfer_at batch t) in
@@ -164,12 +181,14 @@ gives batch settings k end t l c low =
 -- ---- one transfer uses a link in a setting
 
 -- two numbers of a matching that use one link are one
-pub one_number : (batch : List Transfer) (numbers : List ℕ) (end : End) (t u : ℕ) → IsMatching batch numbers → All (λ n. n < length batch) numbers → Contains numbers t → Contains numbers u → module_at end (transfer_at batch t) ≡ module_at end (transfer_at batch u) → t ≡ u
+pub one_number : (batch : List Transfer) (numbers : List ℕ) (end : End) (t u : ℕ) → IsMatching batch numbers → All (λ n. n < length batch) numbers
+    → Contains numbers t → Contains numbers u → module_at end (transfer_at batch t) ≡ module_at end (transfer_at batch u) → t ≡ u
 one_number batch numbers end t u matching known ct cu same =
     let link = link_at end (transfer_at batch u) in
     let at : (v : ℕ) (c : Contains numbers v) → get_or numbers c.0 0 ≡ v = λ v c. get_or_default numbers c.0 0 v c.1 ∙ c.2 in
     let uses : (v : ℕ) (c : Contains numbers v) → module_at end (transfer_at batch v) ≡ link.«module» → Uses batch (get_or numbers c.0 0) link = λ v c is. (
-    subst (λ (n : ℕ). Uses batch n link) (sym (at v c)) (uses_at batch v link (transfer_at batch v) (slice_get-get_or batch v no_transfer (All-contains (λ n. n < length batch) numbers v known c)) is)
+    subst (λ (n : ℕ). Uses batch n link) (sym (at v c))
+    (uses_at batch v link (transfer_at batch v) (slice_get-get_or batch v no_transfer (All-contains (λ n. n < length batch) numbers v known c)) is)
     ) in
     elim (cases_order ct.0 cu.0) [
       | inl here ↦ sym (at t ct) ∙ ap (λ (k : ℕ). get_or numbers k 0) here ∙ at u cu

@@ -16,7 +16,10 @@ there : {X : Type 0} (x y : X) (xs : List X) → Contains xs y → Contains (x �
 there x y xs c = Contains-append_right (x ∷ []) xs y c
 
 pub in_filter : {X : Type 0} (p : X → Bool) (xs : List X) (x : X) → Contains (filter p xs) x → Contains xs x × (p x ≡ true)
-in_filter p xs x c = (All-contains (Contains xs) (filter p xs) x (All-filter p (Contains xs) xs (All-contains_itself xs)) c, All-contains (λ y. p y ≡ true) (filter p xs) x (filter_passes p xs) c)
+in_filter p xs x c = (
+  All-contains (Contains xs) (filter p xs) x (All-filter p (Contains xs) xs (All-contains_itself xs)) c,
+  All-contains (λ y. p y ≡ true) (filter p xs) x (filter_passes p xs) c,
+)
 
 pub to_filter : {X : Type 0} (p : X → Bool) (xs : List X) (x : X) → Contains xs x → p x ≡ true → Contains (filter p xs) x
 to_filter p [] x c up = absurd (omega (arith, c.1))
@@ -26,7 +29,8 @@ to_filter {X} p (y ∷ ys) x c up = elim (p y) as (λ b. p y ≡ b → Contains 
 ] refl
 
 pub in_map : {X Y : Type 0} (f : X → Y) (xs : List X) (y : Y) → Contains (map f xs) y → (x : X) × Contains xs x × (f x ≡ y)
-in_map {X} f xs y c = All-contains (λ z. (x : X) × Contains xs x × (f x ≡ z)) (map f xs) y (All-map (λ z. (x : X) × Contains xs x × (f x ≡ z)) f xs (λ k d l. (get_or xs k d, Contains-get_or xs k d l, refl))) c
+in_map {X} f xs y c = All-contains (λ z. (x : X) × Contains xs x × (f x ≡ z)) (map f xs) y
+    (All-map (λ z. (x : X) × Contains xs x × (f x ≡ z)) f xs (λ k d l. (get_or xs k d, Contains-get_or xs k d l, refl))) c
 
 pub to_map : {X Y : Type 0} (f : X → Y) (xs : List X) (x : X) → Contains xs x → Contains (map f xs) (f x)
 to_map f xs x c = (c.0, omega (arith, c.1, length-map xs f), get_or-map f xs c.0 x (f x) c.1 ∙ ap f c.2)

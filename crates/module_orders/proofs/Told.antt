@@ -35,11 +35,18 @@ use Rattle.module_orders.proofs.Telling.{before_more}
 
 -- ---- how many orders a module has
 
-over_few : (changed : Place → Bool) (k : ℕ) (end : End) (batch : List Transfer) (numbers : List ℕ) (m : ℕ) → length (orders_over changed k end (setting_of batch numbers) m) ≤ length numbers
+over_few : (changed : Place → Bool) (k : ℕ) (end : End) (batch : List Transfer) (numbers : List ℕ) (m : ℕ)
+    → length (orders_over changed k end (setting_of batch numbers) m) ≤ length numbers
 over_few changed k end batch numbers m =
     let ts = setting_of batch numbers in
     let own : Transfer → Bool = λ x. module_at end x == m in
-    omega (arith, length-map (filter own ts) (λ x. order_at (changed (source_of x)) k end x), length-filter own ts, count_by-le-length own ts, length-map numbers (transfer_at batch))
+    omega (
+      arith,
+      length-map (filter own ts) (λ x. order_at (changed (source_of x)) k end x),
+      length-filter own ts,
+      count_by-le-length own ts,
+      length-map numbers (transfer_at batch),
+    )
 
 few_in : (batch : List Transfer) (settings : List (List ℕ)) (k m : ℕ) → length (orders_in batch settings m k) ≤ 2 * length (numbers_in settings k)
 few_in batch settings k m =
@@ -52,7 +59,8 @@ few_in batch settings k m =
       over_few changed k Three batch numbers m,
     )
 
-few_before : (batch : List Transfer) (settings : List (List ℕ)) (count m : ℕ) → count ≤ length settings → length (orders_before batch settings count m) ≤ 2 * length (concat (take count settings))
+few_before : (batch : List Transfer) (settings : List (List ℕ)) (count m : ℕ) → count ≤ length settings → length (orders_before batch settings count m) ≤ 2 *
+    length (concat (take count settings))
 few_before batch settings zero m l = omega arith
 few_before batch settings (suc n) m l =
     let more : length (orders_before batch settings (n + 1) m) ≤ 2 * length (concat (take (n + 1) settings)) = omega (
@@ -72,7 +80,8 @@ few_numbers batch settings schedule =
     let numbers = concat settings in
     length-le_from_distinct_below numbers (length batch) (IsDistinct-from_AllPairs Decides-eqb numbers (is_once batch settings schedule).distinct) (λ q some.
     let one = in_any (λ n. q == n) numbers some in
-    subst (λ (n : ℕ). n < length batch) (sym (eqb-true q one.0 one.2)) (All-contains (λ n. n < length batch) numbers one.0 (is_known batch settings schedule) one.1))
+    subst (λ (n : ℕ). n < length batch) (sym (eqb-true q one.0 one.2)) (All-contains (λ n. n < length batch) numbers one.0 (is_known batch settings schedule)
+    one.1))
 
 -- ---- what an order and a module say
 
@@ -80,7 +89,8 @@ block_low : (batch : List Transfer) (end : End) (t : ℕ) → IsBatch batch → 
 block_low batch Zero t is l = (is.within t no_transfer l).1.0
 block_low batch Three t is l = (is.within t no_transfer l).1.1
 
-can_spell : (batch : List Transfer) (settings : List (List ℕ)) (m : ℕ) (o : Order) → IsBatch batch → IsScheduleOf batch settings → IsNumber (length settings) → Contains (orders_before batch settings (length settings) m) o → CanSpell o
+can_spell : (batch : List Transfer) (settings : List (List ℕ)) (m : ℕ) (o : Order) → IsBatch batch → IsScheduleOf batch settings → IsNumber (length settings)
+    → Contains (orders_before batch settings (length settings) m) o → CanSpell o
 can_spell batch settings m o is schedule fits c =
     let one = in_flat_map (orders_in batch settings m) (range_with_len 0 (length settings)) o c in
     let n = one.0 in
@@ -91,12 +101,20 @@ can_spell batch settings m o is schedule fits c =
     let known = All-contains (λ t. t < length batch) numbers f.0 (schedule.no_other n [] l) f.1 in
     subst CanSpell (sym f.3) (record { setting = omega (arith, l, fits); block = omega (arith, block_low batch side.0 f.0 is known) })
 
-can_tell : (batch : List Transfer) (settings : List (List ℕ)) (m : ℕ) → IsBatch batch → IsScheduleOf batch settings → IsNumber (length settings) → m < MAX_MODULES → CanTell (module_told m (orders_before batch settings (length settings) m))
+can_tell : (batch : List Transfer) (settings : List (List ℕ)) (m : ℕ) → IsBatch batch → IsScheduleOf batch settings → IsNumber (length settings)
+    → m < MAX_MODULES → CanTell (module_told m (orders_before batch settings (length settings) m))
 can_tell batch settings m is schedule fits l =
     let orders = orders_before batch settings (length settings) m in
     record {
       number = omega (arith, l);
-      many = omega (arith, few_before batch settings (length settings) m (omega arith), ap (λ (ss : List (List ℕ)). length (concat ss)) (take_all (length settings) settings (omega arith)), few_numbers batch settings schedule, is.few);
+      many = omega (
+        arith,
+        few_before batch settings (length settings) m (omega arith),
+        ap (λ (ss : List (List ℕ)). length (concat ss))
+            (take_all (length settings) settings (omega arith)),
+        few_numbers batch settings schedule,
+        is.few,
+      );
       orders = λ k d low. can_spell batch settings m (get_or orders k d) is schedule fits (Contains-get_or orders k d low);
     }
 
@@ -107,7 +125,15 @@ text_tells batch settings only is schedule fits =
     let range = range_with_len 0 MAX_MODULES in
     record {
       spelled = refl;
-      count = omega (arith, length-filter (is_told only) (map all range), count_by-le-length (is_told only) (map all range), length-map range all, length-range_with_len 0 MAX_MODULES);
+      count = omega (
+        arith,
+        length-filter (is_told only) (map all range),
+        count_by-le-length (is_told only) (map all range),
+        length-map range all,
+        length-range_with_len 0 MAX_MODULES,
+      );
       settings = fits;
-      modules = All-filter (is_told only) CanTell (map all range) (All-map CanTell all range (λ k d l. can_tell batch settings (get_or range k d) is schedule fits (in_range MAX_MODULES (get_or range k d) (Contains-get_or range k d l))));
+      modules = All-filter (is_told only) CanTell (map all range)
+          (All-map CanTell all range
+          (λ k d l. can_tell batch settings (get_or range k d) is schedule fits (in_range MAX_MODULES (get_or range k d) (Contains-get_or range k d l))));
     }

@@ -1,6 +1,8 @@
 -- The modules of a rack as they obey their orders: their blocks, what they copied aside, and the
 -- words that pass over the links that a setting joins, one word at a time. This project's choice.
-use Rattle.std.specs.Prelude.{◌≡◌, ◌≢◌, ℕ, suc, ◌<◌, ◌+◌, ◌==◌, ◌⊎◌, ◌&&◌, Bool, List, [], ◌∷◌, length, map, filter, All, Contains, slice_index, slice_index_or, slice_set, if◌then◌else◌}
+use Rattle.std.specs.Prelude.{◌≡◌, ◌≢◌, ℕ, suc, ◌<◌, ◌+◌, ◌==◌, ◌⊎◌, ◌&&◌, Bool, List, [], ◌∷◌}
+use Rattle.std.specs.Prelude.{length, map, filter, All, Contains, slice_index, slice_index_or}
+use Rattle.std.specs.Prelude.{slice_set, if◌then◌else◌}
 use Rattle.std.specs.List.{flat_map, list_any}
 use Rattle.batch.specs.declared.transfer.Place.{Place}
 use Rattle.batch.specs.declared.transfer.Transfer.{Transfer}
@@ -67,7 +69,8 @@ words_sent aside now SendCopy p = aside p
 words_sent aside now Receive p = []
 
 -- Word j passes from one link to the other: the one's module has the order to send, and the other's
--- the order to receive. It is word j of what is sent, and becomes word j of the block that receives.
+-- the order to receive. It is word j of what is sent, and becomes word j of the block that
+-- receives.
 pub record Passes (told : RackTold) (aside : Place → List ℕ) (k j : ℕ) (from to : Link)
     (old new : Store) : Type 0 where
   pub sent : Order

@@ -1,6 +1,7 @@
 -- What each module of a rack does in the settings of a schedule. That a module copies a block aside
 -- only where another transfer changes it too soon is this project's choice.
-use Rattle.std.specs.Prelude.{ℕ, Bool, true, false, not, ◌+◌, ◌<◌, ◌==◌, ◌&&◌, List, ◌++◌, map, filter, take, length, nat_lt, All, Option, None, Some, if◌then◌else◌}
+use Rattle.std.specs.Prelude.{ℕ, Bool, true, false, not, ◌+◌, ◌<◌, ◌==◌, ◌&&◌, List, ◌++◌, map}
+use Rattle.std.specs.Prelude.{filter, take, length, nat_lt, All, Option, None, Some, if◌then◌else◌}
 use Rattle.std.specs.List.{concat, flat_map, list_any, range_with_len}
 use Rattle.batch.specs.Held.{same_place}
 use Rattle.batch.specs.Places.{source_of, destination_of}

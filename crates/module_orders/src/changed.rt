@@ -3,32 +3,20 @@
 ghost use Rattle.std.specs.Prelude.{◌≡◌, ◌<◌, [], ◌++◌, List, length, All};
 ghost use Rattle.batch.specs.Batches.{IsBatch};
 ghost use Rattle.batch.specs.ShapeView.{widest};
-ghost use Rattle.batch.specs.Places.{HasPlace, place_index};
+ghost use Rattle.batch.specs.Places.{HasPlace};
 ghost use Rattle.batch.specs.Written.{flag_of};
 ghost use Rattle.batch.specs.declared.transfer.Transfer.{Transfer};
 ghost use Rattle.module_memory.specs.Core.{setting_of};
 ghost use Rattle.module_orders.specs.Flags.{AreChanged};
 
-use batch::{Batch, MAX_BLOCKS, MAX_MODULES, Place};
+use batch::{Batch, MAX_RACK_BLOCKS, Place, widest_index};
 use switch_settings::transfer_of;
-
-/// How many blocks the widest shape has.
-const MAX_RACK_BLOCKS: usize = MAX_MODULES * MAX_BLOCKS;
 
 /// A flag for each block of the widest shape, which is up where a transfer so far has changed the
 /// block.
 #[derive(Drop)]
 pub(crate) struct ChangedBlocks {
     pub(crate) flags: [bool; MAX_RACK_BLOCKS],
-}
-
-/// Where a block stands among those of the widest shape.
-fn index_of(place: Place) -> usize
-    requires { HasPlace widest place }
-    ensures value { result ≡ place_index widest place }
-    ensures below { result < MAX_RACK_BLOCKS }
-{
-    place.module * MAX_BLOCKS + place.block
 }
 
 impl ChangedBlocks {
@@ -53,7 +41,7 @@ impl ChangedBlocks {
             let transfer = transfer_of(batch, *t);
             let destination = transfer.destination();
             if transfer.source() != destination {
-                self.flags[index_of(destination)] = true;
+                self.flags[widest_index(destination)] = true;
             }
         }
     }
@@ -63,6 +51,6 @@ impl ChangedBlocks {
         requires { HasPlace widest place }
         ensures { result ≡ flag_of self.now.flags place }
     {
-        self.flags[index_of(place)]
+        self.flags[widest_index(place)]
     }
 }

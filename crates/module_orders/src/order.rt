@@ -1,5 +1,6 @@
 ghost use Rattle.std.specs.Prelude.{◌≡◌};
-ghost use Rattle.module_orders.specs.Orders.{act_at as act_of, block_at as block_of, is_copy, order_at as order_of, sending};
+ghost use Rattle.module_orders.specs.Orders.{act_at as act_of, block_at as block_of, is_copy};
+ghost use Rattle.module_orders.specs.Orders.{order_at as order_of, sending};
 ghost use Rattle.module_orders.specs.OrdersText.{act_words};
 
 use batch::{Kind, Transfer};

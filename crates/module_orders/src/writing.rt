@@ -4,7 +4,8 @@ ghost use Rattle.std.specs.Prelude.{◌≡◌, IfOk, OnOk, count_by, map};
 ghost use Rattle.link_graph.specs.ScheduleText.{text_of};
 ghost use Rattle.module_orders.specs.Flags.{numbers_up};
 ghost use Rattle.module_orders.specs.Orders.{is_told, rack_told, told_to};
-ghost use Rattle.module_orders.specs.OrdersText.{Adds, copy_line, ended, order_line, orders_text, told_lines};
+ghost use Rattle.module_orders.specs.OrdersText.{Adds, copy_line, ended, order_line, orders_text};
+ghost use Rattle.module_orders.specs.OrdersText.{told_lines};
 
 use crate::module::{ModuleOrders, copies_of};
 use crate::order::Order;

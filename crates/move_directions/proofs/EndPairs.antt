@@ -1,5 +1,6 @@
 -- The two ends of each move: their modules, and their partners.
-use Rattle.std.proofs.Common.{◌≡◌, ◌≢◌, ℕ, zero, suc, ◌+◌, ◌*◌, ◌<◌, List, [], ◌∷◌, length, get_or, set, Option, Some, None, Bool, inl, inr, refl, sym, ap, subst, ◌∙◌, arith, add-one, get_or-set_same, get_or-set_other, length-set}
+use Rattle.std.proofs.Common.{◌≡◌, ◌≢◌, ℕ, zero, suc, ◌+◌, ◌*◌, ◌<◌, List, [], ◌∷◌, length, get_or, set, Option, Some, None, Bool, inl, inr, refl, sym, ap, subst, ◌∙◌, arith, add-one, get_or-set_same}
+use Rattle.std.proofs.Common.{get_or-set_other, length-set}
 use Rattle.std.proofs.lemmas.Bool.{cases_eq, cases_lt}
 use Rattle.std.proofs.lemmas.Option.{same_Some, none-some}
 use Rattle.link_graph.specs.declared.link.End.TheVariants.{Zero, Three}
@@ -70,7 +71,8 @@ other_of_destination (suc t) (suc (suc i)) is = omega (arith, other_of_destinati
 pub none_joined : (ps : List (Option ℕ)) → ((i : ℕ) → get_or ps i None ≡ None) → AreOtherEnds 0 ps
 none_joined ps none = record { joined = λ i lt. absurd (omega arith); fresh = λ i _. none i }
 
-pub one_joined : (t : ℕ) (ps : List (Option ℕ)) → 2 * t + 1 < length ps → AreOtherEnds (2 * t) ps → AreOtherEnds (2 * (t + 1)) (set (set ps (2 * t) (Some (2 * t + 1))) (2 * t + 1) (Some (2 * t)))
+pub one_joined : (t : ℕ) (ps : List (Option ℕ)) → 2 * t + 1 < length ps → AreOtherEnds (2 * t) ps
+    → AreOtherEnds (2 * (t + 1)) (set (set ps (2 * t) (Some (2 * t + 1))) (2 * t + 1) (Some (2 * t)))
 one_joined t ps within so_far =
     let a : ℕ = 2 * t in
     let b : ℕ = 2 * t + 1 in
@@ -85,7 +87,8 @@ one_joined t ps within so_far =
           | inr earlier ↦ get_or-set_other ps a i (Some b) None earlier ∙ so_far.joined i (omega arith)
         ]
       ];
-      fresh = λ i past. get_or-set_other first b i (Some a) None (λ e. omega arith) ∙ (get_or-set_other ps a i (Some b) None (λ e. omega arith) ∙ so_far.fresh i (omega arith));
+      fresh = λ i past. get_or-set_other first b i (Some a) None (λ e. omega arith)
+          ∙ (get_or-set_other ps a i (Some b) None (λ e. omega arith) ∙ so_far.fresh i (omega arith));
     }
 
 pub joined_pairs : (n : ℕ) (ps : List (Option ℕ)) → AreOtherEnds (2 * n) ps → ArePartners ps
@@ -95,27 +98,35 @@ joined_pairs n ps j =
       | inr past ↦ absurd (none-some v (sym (j.fresh u past) ∙ at))
     ] in
     record {
-      symmetric = λ u v at. let p = partner_is u v at in ap (λ (k : ℕ). get_or ps k None) p.1 ∙ (j.joined (other_of u) (other_within n u p.0) ∙ ap Some (other_other u));
+      symmetric = λ u v at. let p = partner_is u v at in ap (λ (k : ℕ). get_or ps k None) p.1
+          ∙ (j.joined (other_of u) (other_within n u p.0) ∙ ap Some (other_other u));
       apart = λ u v at same. other_apart u (same ∙ (partner_is u v at).1);
     }
 
 -- ---- the ends of one more move come to their modules
 
-module _ (xs : List Move) (all : IsMoveList xs) (t : ℕ) (x : Move) (within : t < length xs) (ws ps : List (Option ℕ)) (so_far : ArePaired (module_of_end xs) (2 * length xs) (2 * t) ws ps) (ws' ps' : List (Option ℕ)) (source : HasCome (get_or xs t x).source.«module» (2 * t) ws ps ws' ps') where
+module _ (xs : List Move) (all : IsMoveList xs) (t : ℕ) (x : Move) (within : t < length xs) (ws ps : List (Option ℕ))
+    (so_far : ArePaired (module_of_end xs) (2 * length xs) (2 * t) ws ps) (ws' ps' : List (Option ℕ))
+    (source : HasCome (get_or xs t x).source.«module» (2 * t) ws ps ws' ps') where
   pub source_paired : ArePaired (module_of_end xs) (2 * length xs) (2 * t + 1) ws' ps'
   source_paired =
-      rw add-one (come_paired (module_of_end xs) (2 * length xs) (2 * t) ws ps so_far (omega arith) (get_or xs t x).source.«module» (all.within t x within).0.0 (sym (source_module xs t (2 * t) x within refl)) ws' ps' source)
+      rw add-one (come_paired (module_of_end xs) (2 * length xs) (2 * t) ws ps so_far (omega arith) (get_or xs t x).source.«module» (all.within t x within).0.0
+      (sym (source_module xs t (2 * t) x within refl)) ws' ps' source)
 
-  pub both_paired : (now partners : List (Option ℕ)) → HasCome (get_or xs t x).destination.«module» (2 * t + 1) ws' ps' now partners → ArePaired (module_of_end xs) (2 * length xs) (2 * (t + 1)) now partners
+  pub both_paired : (now partners : List (Option ℕ)) → HasCome (get_or xs t x).destination.«module» (2 * t + 1) ws' ps' now partners
+      → ArePaired (module_of_end xs) (2 * length xs) (2 * (t + 1)) now partners
   both_paired now partners destination =
       let ends : suc (2 * t + 1) ≡ 2 * (t + 1) = omega arith in
-      let paired = come_paired (module_of_end xs) (2 * length xs) (2 * t + 1) ws' ps' source_paired (omega arith) (get_or xs t x).destination.«module» (all.within t x within).0.1 (sym (destination_module xs t (2 * t + 1) x within refl)) now partners destination in
+      let paired = come_paired (module_of_end xs) (2 * length xs) (2 * t + 1) ws' ps' source_paired (omega arith) (get_or xs t x).destination.«module»
+      (all.within t x within).0.1 (sym (destination_module xs t (2 * t + 1) x within refl)) now partners destination in
       subst (λ (i : ℕ). ArePaired (module_of_end xs) (2 * length xs) i now partners) ends paired
 
 -- ---- halves of the ends
 
-pub halves_are : (xs : List Move) (zs ts : List (Option ℕ)) (h : List (Option Bool)) → AreBalanced (module_of_end xs) (2 * length xs) zs → AreOtherEnds (2 * length xs) ts → IsHalved zs ts (length zs) h → HalvesModules xs (in_left h)
+pub halves_are : (xs : List Move) (zs ts : List (Option ℕ)) (h : List (Option Bool)) → AreBalanced (module_of_end xs) (2 * length xs) zs
+    → AreOtherEnds (2 * length xs) ts → IsHalved zs ts (length zs) h → HalvesModules xs (in_left h)
 halves_are xs zs ts h balanced joined halved = record {
-  opposed = λ t lt. left_tells zs ts h Three halved (2 * t) (2 * t + 1) (joined.joined (2 * t) (omega arith) ∙ ap Some (other_of_source t (2 * t) refl)) (omega (arith, balanced.sized));
+  opposed = λ t lt. left_tells zs ts h Three halved (2 * t) (2 * t + 1) (joined.joined (2 * t) (omega arith) ∙ ap Some (other_of_source t (2 * t) refl))
+      (omega (arith, balanced.sized));
   even = balanced.even (in_left h) (λ u v at. left_tells zs ts h Zero halved u v at (pair_in zs v u balanced.pairs (balanced.pairs.symmetric u v at)));
 }

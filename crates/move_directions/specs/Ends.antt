@@ -1,6 +1,7 @@
 -- The two ends of each move as places, numbered in the order of the moves: 2t is the source of move
 -- t, and 2t + 1 its destination.
-use Rattle.std.specs.Prelude.{◌≡◌, ℕ, zero, suc, ◌+◌, ◌*◌, ◌<◌, ◌≤◌, List, [], ◌∷◌, length, Option, Some, None, Bool, not, slice_index_or}
+use Rattle.std.specs.Prelude.{◌≡◌, ℕ, zero, suc, ◌+◌, ◌*◌, ◌<◌, ◌≤◌, List, [], ◌∷◌, length, Option}
+use Rattle.std.specs.Prelude.{Some, None, Bool, not, slice_index_or}
 use Rattle.euler_split.specs.Pairs.{passing}
 use Rattle.move_directions.specs.declared.moves.Move.{Move}
 

@@ -1,7 +1,8 @@
 //! Laws of directions and of the text of moves, proved of the definitions alone. None of them does
 //! anything.
 
-ghost use Rattle.move_directions.specs.Laws.{HalvedIsFewest, ModuleBounds, NeverBoth, OneFault, OneMoveList};
+ghost use Rattle.move_directions.specs.Laws.{HalvedIsFewest, ModuleBounds, NeverBoth, OneFault};
+ghost use Rattle.move_directions.specs.Laws.{OneMoveList};
 
 /// A text denotes at most one list of moves, has at most one first fault, and never both.
 pub fn one_reading()

@@ -16,7 +16,8 @@ after_is [] bytes rest is = let same : Some bytes ≡ Some rest = is in cc
 after_is (b ∷ front) [] rest is = absurd cc
 after_is (b ∷ front) (c ∷ bytes) rest is = by (b == c) refl is (after_is front bytes rest)
   where
-    by : (same : Bool) → (b == c) ≡ same → (if same then bytes_after front bytes else None) ≡ Some rest → (bytes_after front bytes ≡ Some rest → bytes ≡ front ++ rest) → c ∷ bytes ≡ b ∷ (front ++ rest)
+    by : (same : Bool) → (b == c) ≡ same → (if same then bytes_after front bytes else None) ≡ Some rest
+        → (bytes_after front bytes ≡ Some rest → bytes ≡ front ++ rest) → c ∷ bytes ≡ b ∷ (front ++ rest)
     by true same so parts = ap₂ (λ (x : ℕ) (xs : List ℕ). x ∷ xs) (sym (eqb-true b c same)) (parts so)
     by false same so parts = absurd cc
 
@@ -36,7 +37,8 @@ grown (Some xs) (Some ys) front bytes is appended =
     let same : xs ≡ front = cc in ap Some (appended ∙ ap (λ (f : List ℕ). f ++ bytes) same)
 
 -- it grows as they do
-pub gone_more : (name : Text) (old new : Option (List ℕ)) (bytes more : List ℕ) → written_to name old ≡ Some bytes → Appends old new more → written_to name new ≡ Some (bytes ++ more)
+pub gone_more : (name : Text) (old new : Option (List ℕ)) (bytes more : List ℕ) → written_to name old ≡ Some bytes → Appends old new more → written_to name new
+    ≡ Some (bytes ++ more)
 gone_more name None new bytes more is put = absurd cc
 gone_more name (Some xs) None bytes more is put = absurd put
 gone_more name (Some xs) (Some ys) bytes more is put =
@@ -44,7 +46,8 @@ gone_more name (Some xs) (Some ys) bytes more is put =
     let same : ys ≡ front ++ (bytes ++ more) = put ∙ ap (λ (x : List ℕ). x ++ more) (after_is front xs bytes is) ∙ append_assoc front bytes more in
     rw same (behind_front front (bytes ++ more))
 
-pub by_more : (name : Option Text) (old new : Option (List ℕ)) (bytes more : List ℕ) → written_by name old ≡ Some bytes → Appends old new more → written_by name new ≡ Some (bytes ++ more)
+pub by_more : (name : Option Text) (old new : Option (List ℕ)) (bytes more : List ℕ) → written_by name old ≡ Some bytes → Appends old new more
+    → written_by name new ≡ Some (bytes ++ more)
 by_more (Some name) old new bytes more is put = gone_more name old new bytes more is put
 by_more None old new bytes more is put = grown old new bytes more is put
 

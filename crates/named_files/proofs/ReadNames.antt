@@ -25,8 +25,7 @@ all_read names =
     let b = option_to_list names.list in
     let c = option_to_list names.schedule in
     let d = option_to_list names.wiring in
-    let e = names.scripts in
-    (
+    let e = names.scripts in (
       here a (b ++ (c ++ (d ++ e))),
       later a (b ++ (c ++ (d ++ e))) b (here b (c ++ (d ++ e))),
       later a (b ++ (c ++ (d ++ e))) c (later b (c ++ (d ++ e)) c (here c (d ++ e))),

@@ -1,5 +1,6 @@
 -- The clients of a host, by the names of their files.
-use Rattle.std.specs.Prelude.{ℕ, List, [], ◌++◌, codes, Option, Some, true, length, map, slice_index_or}
+use Rattle.std.specs.Prelude.{ℕ, List, [], ◌++◌, codes, Option, Some, true, length, map}
+use Rattle.std.specs.Prelude.{slice_index_or}
 use Rattle.session_answers.specs.HostAnswers.{KnownClients, SessionEnd, seen_end}
 use Rattle.session_answers.specs.declared.ended_session.Ending.{Ending}
 

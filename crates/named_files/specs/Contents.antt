@@ -1,5 +1,6 @@
 -- What the files of a job contain, of which one may be standard input.
-use Rattle.std.specs.Prelude.{◌≡◌, ◌≢◌, ℕ, List, [], ◌∷◌, Option, IfSome, map, option_map, option_to_list}
+use Rattle.std.specs.Prelude.{◌≡◌, ◌≢◌, ℕ, List, [], ◌∷◌, Option, IfSome, map, option_map}
+use Rattle.std.specs.Prelude.{option_to_list}
 use Rattle.command_words.specs.Jobs.{Files, input_name}
 use Rattle.named_files.specs.declared.contents.Contents.{Contents}
 

@@ -1,5 +1,6 @@
 -- Which files are one, by what their names lead to.
-use Rattle.std.specs.Prelude.{◌≡◌, ◌≢◌, ◌⊎◌, ◌↔◌, ℕ, Bool, false, List, Option, All, AllPairs, Contains, IfSome, IsTrue, MatchOption, codes, string_bytes}
+use Rattle.std.specs.Prelude.{◌≡◌, ◌≢◌, ◌⊎◌, ◌↔◌, ℕ, Bool, false, List, Option, All, AllPairs}
+use Rattle.std.specs.Prelude.{Contains, IfSome, IsTrue, MatchOption, codes, string_bytes}
 use Rattle.clap.specs.Words.{Text}
 use Rattle.command_words.specs.declared.uses.Access.{Access}
 use Rattle.command_words.specs.declared.jobs.Job.{Job}
@@ -53,7 +54,8 @@ IsForbiddenStream access kind = (kind ≡ Plain) ⊎ (Exclude access Read × (ki
 -- what is told of a stream and of a file of this use is one such file
 abbrev pub IsBarredSeen : Access → Option FileId → Option FileId → Type 0
 IsBarredSeen access file_id there =
-    MatchOption file_id ⊥ (λ p. MatchOption there ⊥ (λ q. IsForbiddenStream access p.kind × AreOneFile p q))
+    MatchOption file_id ⊥
+    (λ p. MatchOption there ⊥ (λ q. IsForbiddenStream access p.kind × AreOneFile p q))
 
 -- a file is another than the one at this place, as far as it is told where its name leads; or a
 -- stream may lead there

@@ -1,5 +1,6 @@
 -- What is told beside an answer, or where there is none.
-use Rattle.std.specs.Prelude.{◌≡◌, ◌≢◌, ◌⊎◌, ◌++◌, ⊤, ℕ, Bool, false, List, [], ◌∷◌, Option, Some, IfSome, codes, option_map, string_bytes}
+use Rattle.std.specs.Prelude.{◌≡◌, ◌≢◌, ◌⊎◌, ◌++◌, ⊤, ℕ, Bool, false, List, [], ◌∷◌, Option, None}
+use Rattle.std.specs.Prelude.{Some, IfSome, codes, option_map, string_bytes}
 use Rattle.std.specs.Io.KnownBytes.{Appends}
 use Rattle.plan_answers.specs.Refusals.{Printed}
 use Rattle.plan_answers.specs.declared.limits.TheConstants.{REFUSED}
@@ -7,10 +8,9 @@ use Rattle.refusals.specs.declared.refusal.Refusal.{Refusal}
 use Rattle.refusals.specs.Refusals.{refusal_line}
 pub use Rattle.refusal_notes.specs.Told.{IsWholeLine}
 use Rattle.named_files.specs.declared.notes.JobFailure.{JobFailure}
-use Rattle.named_files.specs.declared.notes.JobFailure.TheVariants.{Refused, OutputFailure}
+use Rattle.named_files.specs.declared.notes.JobFailure.TheVariants.{File, NoMemory, Output}
+use Rattle.named_files.specs.declared.notes.JobFailure.TheVariants.{OutputFailure}
 use Rattle.refusals.specs.declared.refusal.Refusal.TheVariants as refusal
-use Rattle.named_files.specs.declared.refusal_cause.RefusalCause.{RefusalCause}
-use Rattle.named_files.specs.declared.refusal_cause.RefusalCause.TheVariants.{File, NoMemory, Output}
 
 -- this line says a refusal, which isn't want of memory
 abbrev pub SaysRefusal : List ℕ → Type 0
@@ -54,24 +54,34 @@ HasToldLines quiet before after =
     (after ≡ before)
     ⊎ ((quiet ≡ false) × ((lines : List (List ℕ)) × AreToldLines before after lines))
 
--- which refusal that is
-abbrev pub refusal_of : RefusalCause → Refusal
-refusal_of File = refusal.File
-refusal_of Output = refusal.File
-refusal_of NoMemory = refusal.NoMemory
+-- which refusal is printed where there is no answer, if anything can be printed
+abbrev pub refusal_of : JobFailure → Option Refusal
+refusal_of (File _) = Some refusal.File
+refusal_of NoMemory = Some refusal.NoMemory
+refusal_of missed = None
 
--- what is printed where there is no answer
-abbrev pub unanswered : RefusalCause → Printed
-unanswered why = record { text = refusal_line (refusal_of why); status = REFUSED }
+-- what is printed then
+abbrev pub unanswered : Refusal → Printed
+unanswered why = record { text = refusal_line why; status = REFUSED }
 
--- what is told where there is no answer; what couldn't be written is told otherwise
-abbrev pub IsNoAnswer : JobFailure → Type 0
-IsNoAnswer (Refused why note) =
-    IsNoteOn (unanswered why) (option_map (λ line. string_bytes line) note)
-IsNoAnswer (OutputFailure what) = ⊤
+-- where there is no answer, this is printed
+abbrev pub GivesUp : Printed → Type 0
+GivesUp printed = (printed ≡ unanswered refusal.File) ⊎ (printed ≡ unanswered refusal.NoMemory)
+
+-- what is told beside it
+abbrev pub note_of : JobFailure → Option (List ℕ)
+note_of (File note) = option_map (λ line. string_bytes line) note
+note_of (Output note) = option_map (λ line. string_bytes line) note
+note_of missed = None
 
 -- it is refused, with what is told of that
 abbrev pub IsRefused : JobFailure → Type 0
-IsRefused (Refused why note) =
-    IsNoteOn (unanswered why) (option_map (λ line. string_bytes line) note)
+IsRefused (File note) = IfSome note (λ line. IsWholeLine (string_bytes line))
+IsRefused (Output note) = IfSome note (λ line. IsWholeLine (string_bytes line))
+IsRefused NoMemory = ⊤
 IsRefused (OutputFailure what) = ⊥
+
+-- the same, or something couldn't be written, which is told otherwise
+abbrev pub IsNoAnswer : JobFailure → Type 0
+IsNoAnswer (OutputFailure what) = ⊤
+IsNoAnswer missed = IsRefused missed

@@ -1,5 +1,7 @@
 -- The files to which go the record of sessions and the image that they leave.
-use Rattle.std.specs.Prelude.{◌≡◌, ℕ, List, [], Option, Some, None, ⊤, codes, Bool, true, false, IfSome, MatchOption, is_some, not, option_map, string_bytes, unwrap_or}
+use Rattle.std.specs.Prelude.{◌≡◌, ℕ, List, [], Option, Some, None, ⊤, codes, Bool, true, false}
+use Rattle.std.specs.Prelude.{IfSome, MatchOption, is_some, not, option_map, string_bytes}
+use Rattle.std.specs.Prelude.{unwrap_or}
 use Rattle.command_words.specs.declared.jobs.Job.{Job}
 use Rattle.command_words.specs.Jobs.{recorded_in, serves_live}
 use Rattle.named_files.specs.Notes.{IsToldInPart}
@@ -7,7 +9,9 @@ use Rattle.named_files.specs.Contents.{Holding}
 use Rattle.named_files.specs.Streams.{Closed, IsFrontOf, IsLeftOf, closed, written_to}
 use Rattle.named_files.specs.declared.outputs.Receipts.{Receipts}
 use Rattle.named_files.specs.declared.output_failure.OutputFailure.{OutputFailure}
-use Rattle.named_files.specs.declared.output_failure.OutputFailure.TheVariants.{Answer, SessionFiles, Nowhere, Setting}
+use Rattle.named_files.specs.declared.output_failure.OutputFailure.TheVariants.{Answer}
+use Rattle.named_files.specs.declared.output_failure.OutputFailure.TheVariants.{SessionFiles}
+use Rattle.named_files.specs.declared.output_failure.OutputFailure.TheVariants.{Nowhere, Setting}
 use Rattle.clap.specs.Words.{Text}
 use Rattle.command_words.specs.declared.jobs.Job.TheVariants.{Sessions}
 use Rattle.named_files.specs.declared.write_failures.WriteFailures.{WriteFailures}
@@ -126,8 +130,8 @@ IsFileWritten received (Some name) bytes (Some receipt) lost =
 abbrev pub IsUnput : {C : Type 0} → (C → Closed) → Option C → Type 0
 IsUnput received receipt = IfSome receipt (λ receipt. (received receipt).durable ≡ false)
 
--- what was told on standard error of what couldn't be written; where it is an answer, or a reason is
--- known, it may be any text
+-- what was told on standard error of what couldn't be written; where it is an answer, or a reason
+-- is known, it may be any text
 abbrev pub IsUnwrittenTold : OutputFailure → Option (List ℕ) → Option (List ℕ) → Type 0
 IsUnwrittenTold (Answer error lost) before after = ⊤
 IsUnwrittenTold Nowhere before after = after ≡ before

@@ -1,5 +1,6 @@
 -- What goes to a stream, and what is left of it.
-use Rattle.std.specs.Prelude.{◌≡◌, ◌++◌, ◌==◌, ℕ, Bool, List, [], ◌∷◌, Option, Some, None, Result, Ok, Err, if◌then◌else◌, length, option_and_then}
+use Rattle.std.specs.Prelude.{◌≡◌, ◌++◌, ◌==◌, ℕ, Bool, List, [], ◌∷◌, Option, Some, None, Result}
+use Rattle.std.specs.Prelude.{Ok, Err, if◌then◌else◌, length, option_and_then}
 use Rattle.clap.specs.Words.{Text}
 
 -- the bytes after this front; none where it isn't there
@@ -27,8 +28,8 @@ written_by (Some name) contents = written_to name contents
 abbrev pub written_at : {F : Type 0} → (F → Option (List ℕ)) → Option Text → F → Option (List ℕ)
 written_at contents name file = written_by name (contents file)
 
--- what is left of a stream: the name by which it was opened, all that has gone to it, and whether it
--- stands in its place
+-- what is left of a stream: the name by which it was opened, all that has gone to it, and whether
+-- it stands in its place
 pub record Closed : Type 0 where
   pub name : Text
   pub bytes : Option (List ℕ)

@@ -26,12 +26,12 @@ pub trait ClientFiles: Sync {
     /// What has gone to the file of this name before it is opened.
     ghost had: { Self → List ℕ → List ℕ };
 
-    /// Opens the file from which a client is heard.
+    /// Opens the file of a client's input.
     fn open_input(&self, there: &ThreadsStarted, name: &str) -> io::Result<Self::Input>
         ensures { IfOk result (λ heard. Self.Input.remaining heard ≡ says self.now name.now) };
 
-    /// Opens the file by which a client is told: it is made where it isn't there, and emptied. It is
-    /// one by which the job tells a client.
+    /// Opens the file of a client's output: it is made where it isn't there, and emptied. It is one
+    /// of those that the job names for outputs of clients.
     fn open_output(
         &self,
         there: &ThreadsStarted,

@@ -1,6 +1,7 @@
 //! What a job's files contain, of which one may be standard input.
 
-ghost use Rattle.std.specs.Prelude.{◌≡◌, [], All, IfOk, IfErr, map, option_map, option_to_list, unwrap_or};
+ghost use Rattle.std.specs.Prelude.{◌≡◌, [], All, IfOk, IfErr, map, option_map, option_to_list};
+ghost use Rattle.std.specs.Prelude.{unwrap_or};
 ghost use Rattle.plan_answers.specs.Lent.{bytes_of};
 ghost use Rattle.plan_answers.specs.Schedules.{said_by, source_map};
 ghost use Rattle.command_words.specs.Files.{file_names};

@@ -1,16 +1,18 @@
 //! Which files the names of a job lead to: none that it writes is one that it reads, or writes too.
 
-ghost use Rattle.std.specs.Prelude.{◌≡◌, ◌↔◌, All, IfErr, IfOk, IfSome, IsTrue, OnOk, codes, false, string_bytes};
+ghost use Rattle.std.specs.Prelude.{◌≡◌, ◌↔◌, All, IfErr, IfNone, IfOk, IfSome, IsTrue, OnOk};
+ghost use Rattle.std.specs.Prelude.{codes, false, string_bytes};
 ghost use Rattle.command_words.specs.Jobs.{file_uses as the_uses};
 ghost use Rattle.command_words.specs.declared.uses.Access.TheVariants.{Port};
 ghost use Rattle.named_files.specs.declared.file_id.FileKind.TheVariants.{Null, Plain};
-ghost use Rattle.named_files.specs.DistinctFiles.{HaveNoClash, AreSeenApart, Clash, IsForbiddenStream, IsBarredSeen, IsClashSeen, IsNoneOf, IsOther, IsSeen};
+ghost use Rattle.named_files.specs.DistinctFiles.{HaveNoClash, AreSeenApart, Clash};
+ghost use Rattle.named_files.specs.DistinctFiles.{IsForbiddenStream, IsBarredSeen, IsClashSeen};
+ghost use Rattle.named_files.specs.DistinctFiles.{IsNoneOf, IsOther, IsSeen};
 ghost use Rattle.named_files.specs.Notes.{IsWholeLine, IsRefused};
 
+use crate::file_id::{FileId, FileKind, PathLookup, are_one_file};
 use crate::notes::JobFailure;
-use crate::file_id::{FileKind, FileId, PathLookup, are_one_file};
-use crate::refusal_cause::RefusalCause;
-use command_words::{Access, FileUse, Job, RoleClash, Text, file_uses};
+use command_words::{Access, FileUse, Job, RoleClash, file_uses};
 use refusal_notes::{NamedText, file_line};
 use std::alloc::{AllocError, Global};
 use std::marker::Model;
@@ -99,10 +101,8 @@ fn one_file_line(alloc: Global, one: &FileUse, other: &FileUse) -> Option<String
 fn refused(alloc: Global, one: &FileUse, other: &FileUse) -> JobFailure
     ensures { IsRefused result }
 {
-    let note = one_file_line(alloc, one, other);
-    JobFailure::Refused {
-        why: RefusalCause::File,
-        note,
+    JobFailure::File {
+        note: one_file_line(alloc, one, other),
     }
 }
 
@@ -126,7 +126,11 @@ fn look_at<S: PathLookup>(
 }
 
 /// Looks whether each two of these files are two, where they have to be.
-fn look_through<S: PathLookup>(system: &S, alloc: Global, files: &[FileUse]) -> Result<(), JobFailure>
+fn look_through<S: PathLookup>(
+    system: &S,
+    alloc: Global,
+    files: &[FileUse],
+) -> Result<(), JobFailure>
     ensures apart { OnOk result (HaveNoClash (S.leads system.now) files.now) }
     ensures note { IfErr result (λ missed. IsRefused missed) }
 {
@@ -163,60 +167,56 @@ fn is_barred_seen(access: Access, file_id: &Option<FileId>, there: &Option<FileI
     ensures { IsTrue result ↔ IsBarredSeen access file_id.now there.now }
 {
     match (file_id, there) {
-        (Some(file_id), Some(there)) => is_barred(access, file_id.kind) && are_one_file(file_id, there),
+        (Some(file_id), Some(there)) => is_barred(access, file_id.kind)
+            && are_one_file(file_id, there),
         _ => false,
     }
 }
 
-/// Looks whether a stream that leads to this place is none of these files, but where it may be.
-/// Where it is another, this is why there is no answer; what is told of that may go to standard
-/// error, or nowhere.
-fn look_beside<S: PathLookup>(
+/// The first of these files that a stream which leads to this place may not be, and is.
+fn barred_file<'a, S: PathLookup>(
     system: &S,
-    alloc: Global,
     file_id: &Option<FileId>,
-    files: &[FileUse],
-    why: RefusalCause,
-    tells: bool,
-) -> Result<(), JobFailure>
-    ensures none { OnOk result (All (IsOther (S.leads system.now) file_id.now) files.now) }
-    ensures note { IfErr result (λ missed. IsRefused missed) }
+    files: &'a [FileUse],
+) -> Result<Option<&'a FileUse>, AllocError>
+    ensures { IfOk result (λ barred.
+        IfNone barred (All (IsOther (S.leads system.now) file_id.now) files.entry.now)) }
 {
     for file in files {
         let there = system.file_id(file.name.as_str())?;
         if is_barred_seen(file.access, file_id, &there) {
-            return Err(unanswered(alloc, &file.name, why, tells));
+            return Ok(Some(file));
         }
     }
-    Ok(())
-}
-
-/// Why a job isn't done where a standard stream is one of its files.
-fn unanswered(alloc: Global, file: &Text, why: RefusalCause, tells: bool) -> JobFailure
-    ensures { IsRefused result }
-{
-    match why {
-        RefusalCause::Output if tells => {
-            let reason = "standard output goes there, and nothing else may";
-            let note = file_line(alloc, file.as_str(), reason);
-            JobFailure::Refused { why, note }
-        }
-        _ => JobFailure::Refused { why, note: None },
-    }
+    Ok(None)
 }
 
 /// Looks whether standard output and standard error are none of these files, but where they may be.
 /// Where standard error is another, nothing is told there.
-fn look_at_streams<S: PathLookup>(system: &S, alloc: Global, files: &[FileUse]) -> Result<(), JobFailure>
+fn look_at_streams<S: PathLookup>(
+    system: &S,
+    alloc: Global,
+    files: &[FileUse],
+) -> Result<(), JobFailure>
     ensures out { OnOk result (IsNoneOf (S.leads system.now) (codes "/dev/stdout") files.now) }
     ensures err { OnOk result (IsNoneOf (S.leads system.now) (codes "/dev/stderr") files.now) }
     ensures note { IfErr result (λ missed. IsRefused missed) }
 {
     let out = system.file_id("/dev/stdout")?;
     let err = system.file_id("/dev/stderr")?;
-    let end = look_beside(system, alloc, &err, files, RefusalCause::File, false);
-    look_beside(system, alloc, &out, files, RefusalCause::Output, end.is_ok())?;
-    end
+    let told = barred_file(system, &err, files);
+    if let Some(file) = barred_file(system, &out, files)? {
+        let reason = "standard output goes there, and nothing else may";
+        let note = match told {
+            Ok(None) => file_line(alloc, file.name.as_str(), reason),
+            _ => None,
+        };
+        return Err(JobFailure::Output { note });
+    }
+    match told? {
+        Some(_) => Err(JobFailure::File { note: None }),
+        None => Ok(()),
+    }
 }
 
 /// Looks whether the files that a job writes are others than those that it reads, and than each

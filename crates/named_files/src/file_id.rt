@@ -102,7 +102,7 @@ pub(crate) fn folder_of(path: Path<'_>) -> &str {
     }
 }
 
-/// The place of a file that isn't there yet: its name in its folder.
+/// The id of a file that isn't there yet: its name in its folder.
 fn place_in_folder(rt: &HostRuntime, path: Path<'_>) -> Result<Option<FileId>, AllocError> {
     let Some(name) = path.file_name() else {
         return Ok(None);

@@ -3,8 +3,8 @@
 use crate::client_streams::ClientFiles;
 use crate::distinct_files::DistinctFiles;
 use crate::output_file::{ClosedFile, OutputFile, empty_alone};
-use crate::traced_file::TracedFile;
 use crate::system::System;
+use crate::traced_file::TracedFile;
 use session_answers::ThreadsStarted;
 use std::fs::{File, OpenOptions};
 use std::{fs, io};

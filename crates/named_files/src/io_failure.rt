@@ -1,6 +1,6 @@
 //! What lacks.
 
-/// What lacks, and what is told of it.
+/// A file that failed, and the words of its note.
 #[derive(Drop)]
 pub struct IoFailure {
     /// The name of the file.

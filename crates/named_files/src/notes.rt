@@ -1,10 +1,9 @@
-//! Why there is no answer, and what is told of it.
+//! Why a job has no answer, and what is told of it.
 
 ghost use Rattle.std.specs.Prelude.{◌≡◌, IfSome, option_map, string_bytes};
 ghost use Rattle.named_files.specs.Notes.{IsRefused, IsToldInPart, IsToldUnless, IsWholeLine};
 
 use crate::io_failure::IoFailure;
-use crate::refusal_cause::RefusalCause;
 use crate::output_failure::OutputFailure;
 use byte_streams::write_bytes;
 use command_words::Text;
@@ -13,30 +12,27 @@ use std::alloc::{AllocError, Global};
 use std::io;
 use std::io::{ErrorKind, Write};
 
-/// Why there is no answer.
+/// Why a job has no answer, with the line that tells more of it.
 #[derive(Drop)]
 pub enum JobFailure {
-    /// It is refused, with the line that is told beside that.
-    Refused {
-        why: RefusalCause,
-        note: Option<String>,
-    },
-    /// What stands before it couldn't be written.
+    /// A file, or standard input, can't be read or opened, or isn't one that the job may use.
+    File { note: Option<String> },
+    /// Standard output is a file that the job reads or writes, so nothing can be said there.
+    Output { note: Option<String> },
+    /// There was no memory.
+    NoMemory,
+    /// What stands before the answer couldn't be written.
     OutputFailure(OutputFailure),
 }
 
 impl From<AllocError> for JobFailure {
-    ghost use Rattle.std.specs.Prelude.{◌≡◌, None};
-    ghost use Rattle.named_files.specs.declared.notes.JobFailure.TheVariants.{Refused};
-    ghost use Rattle.named_files.specs.declared.refusal_cause.RefusalCause.TheVariants.{NoMemory};
+    ghost use Rattle.std.specs.Prelude.{◌≡◌};
+    ghost use Rattle.named_files.specs.declared.notes.JobFailure.TheVariants.{NoMemory};
 
-    ghost from_gives = { λ _ missed. missed ≡ Refused NoMemory None };
+    ghost from_gives = { λ _ missed. missed ≡ NoMemory };
 
     fn from(_error: AllocError) -> JobFailure {
-        JobFailure::Refused {
-            why: RefusalCause::NoMemory,
-            note: None,
-        }
+        JobFailure::NoMemory
     }
 }
 
@@ -53,9 +49,8 @@ pub fn read_failure(alloc: Global, name: &Text, error: &io::Error) -> JobFailure
     ensures { IsRefused result }
 {
     match error.kind() {
-        ErrorKind::OutOfMemory => JobFailure::from(AllocError),
-        _ => JobFailure::Refused {
-            why: RefusalCause::File,
+        ErrorKind::OutOfMemory => JobFailure::NoMemory,
+        _ => JobFailure::File {
             note: reason_line(alloc, name.as_str(), error),
         },
     }

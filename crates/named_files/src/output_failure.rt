@@ -2,8 +2,8 @@
 
 ghost use Rattle.named_files.specs.Outputs.{IsUnwrittenTold};
 
-use crate::write_failures::WriteFailures;
 use crate::notes::tell_line;
+use crate::write_failures::WriteFailures;
 use std::io;
 use std::io::Write;
 
@@ -12,7 +12,10 @@ use std::io::Write;
 pub enum OutputFailure {
     /// The answer, or what a session or a switch is told before it; and what was lost before that
     /// of what sessions leave.
-    Answer { error: io::Error, lost: WriteFailures },
+    Answer {
+        error: io::Error,
+        lost: WriteFailures,
+    },
     /// The answer, since standard output is a file that the job reads or writes. It was told,
     /// where anything is wanted.
     Nowhere,

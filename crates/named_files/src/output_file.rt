@@ -45,8 +45,8 @@ pub struct OutputFile {
     pub(crate) failure: Option<io::Error>,
 }
 
-/// What went to a file that is closed, by which name it was opened, and whether it stands where it
-/// belongs.
+/// What went to a file that is closed, by which name it was opened, and whether it is durable under
+/// that name.
 #[derive(Drop)]
 pub struct ClosedFile {
     pub(crate) sent: PassedBytes,
@@ -73,7 +73,7 @@ fn leads_to(rt: &HostRuntime, name: &str, file: &File) -> io::Result<bool> {
     }
 }
 
-/// Whether a name leads to this place.
+/// Whether a name leads to the file of this id.
 fn is_at(rt: &HostRuntime, name: &str, file_id: &FileId) -> Result<bool, AllocError> {
     let there = rt.file_id(name)?;
     Ok(there.is_some_and(|there| are_one_file(&there, file_id)))
@@ -343,8 +343,8 @@ impl OutputFile {
         }
     }
 
-    /// Waits until the disk has it, and sees to it that its name leads to it: a new file is put in
-    /// its place. Where that fails a new file goes.
+    /// Syncs it, and renames a new file into its place, so that its name leads to it. Where that
+    /// fails a new file goes.
     fn persist(&self, rt: &HostRuntime) -> io::Result<()> {
         let end = self.persist_named(rt);
         if end.is_err() {

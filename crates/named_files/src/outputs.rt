@@ -1,16 +1,20 @@
 //! The files to which go the record of sessions and the image that they leave.
 
-ghost use Rattle.std.specs.Prelude.{◌≡◌, ℕ, List, [], Some, IfErr, IfOk, None, OnErr, OnOk, false, is_ok};
+ghost use Rattle.std.specs.Prelude.{◌≡◌, ℕ, List, [], Some, IfErr, IfOk, None, OnErr, OnOk, false};
+ghost use Rattle.std.specs.Prelude.{is_ok};
 ghost use Rattle.command_words.specs.Jobs.{file_uses as the_uses, recorded_in};
 ghost use Rattle.named_files.specs.DistinctFiles.{AreSeenApart, IsWrittenOf, MayBeWritten};
 ghost use Rattle.named_files.specs.Notes.{IsRefused};
-ghost use Rattle.named_files.specs.Outputs.{AreNamed, AreOpened, IsFileWritten, IsLeftOfAny, IsOpened, IsUnput, begins_with, is_live as live, is_new, name_of, none_open, none_opened, output_of, record_of, stream_of};
+ghost use Rattle.named_files.specs.Outputs.{AreNamed, AreOpened, IsFileWritten, IsLeftOfAny};
+ghost use Rattle.named_files.specs.Outputs.{IsOpened, IsUnput, begins_with, is_live as live};
+ghost use Rattle.named_files.specs.Outputs.{is_new, name_of, none_open, none_opened, output_of};
+ghost use Rattle.named_files.specs.Outputs.{record_of, stream_of};
 ghost use Rattle.named_files.specs.Streams.{IsLeftOf, IsWrittenBy, written_to};
 
 use crate::distinct_files::{DistinctFiles, check_distinct};
-use crate::write_failures::WriteFailure;
 use crate::notes::{JobFailure, read_failure};
 use crate::system::System;
+use crate::write_failures::WriteFailure;
 use byte_streams::write_bytes;
 use command_words::{Job, SharedRack, Text};
 use std::alloc::{AllocError, Global};
@@ -238,7 +242,10 @@ pub fn close_stream<S: System>(system: &S, stream: Option<S::Stream>) -> Option<
 }
 
 /// Closes a file, where one is open.
-pub fn close_file<S: System>(system: &S, out: Option<NamedOutput<'_, S::Stream>>) -> Option<S::Receipt>
+pub fn close_file<S: System>(
+    system: &S,
+    out: Option<NamedOutput<'_, S::Stream>>,
+) -> Option<S::Receipt>
     ensures { IsLeftOfAny S.Stream.contents S.received (stream_of out.entry) result }
 {
     match out {

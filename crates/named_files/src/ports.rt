@@ -117,8 +117,8 @@ impl Pipes {
         })
     }
 
-    /// The file that lacks where the port's own couldn't be opened for this reason: the other pipe,
-    /// where one is there alone, and the port's own isn't.
+    /// The file that is missing where the port's own couldn't be opened for this reason: the other
+    /// pipe, where one is there alone, and the port's own isn't.
     fn lacking(&self, why: &io::Error) -> PortFile {
         match (why.kind(), self.has_to, self.has_from) {
             (ErrorKind::NotFound, true, false) => PortFile::Out,
@@ -138,7 +138,10 @@ impl Pipes {
 
 /// Opens both ways of a port: `NAME.in` to the switch, and then `NAME.out` from it, where both are
 /// there; else `NAME` both to read and to write. Nothing is made, and nothing emptied.
-fn open_port<R: AllocGlobal + Files>(rt: &R, name: &str) -> Result<OpenedPort<R::File>, OpenFailure> {
+fn open_port<R: AllocGlobal + Files>(
+    rt: &R,
+    name: &str,
+) -> Result<OpenedPort<R::File>, OpenFailure> {
     let pipes = Pipes::of(rt, name).map_err(|why| (PortFile::Port, why))?;
     if pipes.has_to && pipes.has_from {
         return pipes.open(rt);

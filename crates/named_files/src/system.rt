@@ -1,6 +1,7 @@
 //! What the program asks of the system by name.
 
-ghost use Rattle.std.specs.Prelude.{◌≡◌, ◌≤◌, ℕ, false, is_ok, length, take, List, [], Some, IfOk, OnOk, OnErr};
+ghost use Rattle.std.specs.Prelude.{◌≡◌, ◌≤◌, ℕ, false, is_ok, length, take, List, [], Some, IfOk};
+ghost use Rattle.std.specs.Prelude.{OnOk, OnErr};
 ghost use Rattle.named_files.specs.DistinctFiles.{IsReadOf, IsWrittenOf};
 ghost use Rattle.named_files.specs.Streams.{Closed, IsLeftOf, written_to};
 

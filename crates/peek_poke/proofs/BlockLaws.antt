@@ -32,14 +32,16 @@ found start s b block j four e h =
     }
 
 -- the address of a word of the block is that word
-word_in-address_from : (start : ℕ) (s : ShapeView) (b : BlockAt) (j : ℕ) → start % WORD_BYTES ≡ 0 → length b.words ≡ s.words → j < s.words → word_in start b (address_from start s b.place.block j) ≡ Ok j
+word_in-address_from : (start : ℕ) (s : ShapeView) (b : BlockAt) (j : ℕ) → start % WORD_BYTES ≡ 0 → length b.words ≡ s.words → j < s.words
+    → word_in start b (address_from start s b.place.block j) ≡ Ok j
 word_in-address_from start s b j four e h =
     let f = found start s b b.place.block j four e h in
     let here : (number_from start (address_from start s b.place.block j) / length b.words == b.place.block) ≡ true = eq-eqb _ _ f.row in
     rw (f.aligned, f.from, f.some, here) (ap (λ x. Ok x) f.column)
 
 -- that of another block is no word
-word_in-other : (start : ℕ) (s : ShapeView) (b : BlockAt) (other j : ℕ) → start % WORD_BYTES ≡ 0 → length b.words ≡ s.words → j < s.words → other ≢ b.place.block → word_in start b (address_from start s other j) ≡ Err Outside
+word_in-other : (start : ℕ) (s : ShapeView) (b : BlockAt) (other j : ℕ) → start % WORD_BYTES ≡ 0 → length b.words ≡ s.words → j < s.words
+    → other ≢ b.place.block → word_in start b (address_from start s other j) ≡ Err Outside
 word_in-other start s b other j four e h n =
     let f = found start s b other j four e h in
     let away : (number_from start (address_from start s other j) / length b.words == b.place.block) ≡ false = ne_eqb _ _ (λ r. n (sym f.row ∙ r)) in

@@ -58,9 +58,12 @@ partial_no_message (c ∷ bytes) (Peek a) x (inr p) e =
 
 pub one_reading : OneReading
 one_reading [] [] rest left p q r l e = (refl, e)
-one_reading [] (n ∷ ns) rest left p q r l e = absurd (partial_no_message rest n (flat_map spell ns ++ left) r (e ∙ append_assoc (spell n) (flat_map spell ns) left))
-one_reading (m ∷ ms) [] rest left p q r l e = absurd (partial_no_message left m (flat_map spell ms ++ rest) l (sym e ∙ append_assoc (spell m) (flat_map spell ms) rest))
+one_reading [] (n ∷ ns) rest left p q r l e =
+    absurd (partial_no_message rest n (flat_map spell ns ++ left) r (e ∙ append_assoc (spell n) (flat_map spell ns) left))
+one_reading (m ∷ ms) [] rest left p q r l e =
+    absurd (partial_no_message left m (flat_map spell ms ++ rest) l (sym e ∙ append_assoc (spell m) (flat_map spell ms) rest))
 one_reading (m ∷ ms) (n ∷ ns) rest left p q r l e =
-    let first = same_message m n (flat_map spell ms ++ rest) (flat_map spell ns ++ left) (All-head IsMessage m ms p) (All-head IsMessage n ns q) (sym (append_assoc (spell m) (flat_map spell ms) rest) ∙ e ∙ append_assoc (spell n) (flat_map spell ns) left) in
+    let first = same_message m n (flat_map spell ms ++ rest) (flat_map spell ns ++ left) (All-head IsMessage m ms p) (All-head IsMessage n ns q)
+    (sym (append_assoc (spell m) (flat_map spell ms) rest) ∙ e ∙ append_assoc (spell n) (flat_map spell ns) left) in
     let more = one_reading ms ns rest left (All-tail IsMessage m ms p) (All-tail IsMessage n ns q) r l first.1 in
     (ap₂ (λ (z : Message) (zs : List Message). z ∷ zs) first.0 more.0, more.1)

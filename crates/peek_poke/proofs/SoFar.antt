@@ -15,11 +15,26 @@ whole_more ms m = flat_map_more spell [] ms m
 
 module _ {S : Type 0} (read : S → ℕ → Result ℕ StoreFault) (write : S → ℕ → ℕ → Result S StoreFault) where
   -- one more message
-  DoAll-push : (s u t : S) (ms : List Message) (m : Message) (answers : List (List ℕ)) (a : Option (List ℕ)) → DoAll read write s ms answers u → HasEffect read write u m a t → DoAll read write s (ms ++ m ∷ []) (answers ++ option_to_list a) t
-  DoAll-push s u t [] m answers a h d =
-      (a, t, [], subst (λ (x : S). HasEffect read write x m a t) h.1 d, ap (λ (xs : List (List ℕ)). xs ++ option_to_list a) h.0 ∙ sym (append-nil (option_to_list a)), (refl, refl))
-  DoAll-push s u t (n ∷ ms) m answers a h d =
-      (h.0, h.1, h.2 ++ option_to_list a, h.3, ap (λ (xs : List (List ℕ)). xs ++ option_to_list a) h.4 ∙ append_assoc (option_to_list h.0) h.2 (option_to_list a), DoAll-push h.1 u t ms m h.2 a h.5 d)
+  DoAll-push : (s u t : S) (ms : List Message) (m : Message) (answers : List (List ℕ)) (a : Option (List ℕ)) → DoAll read write s ms answers u
+      → HasEffect read write u m a t → DoAll read write s (ms ++ m ∷ []) (answers ++ option_to_list a) t
+  DoAll-push s u t [] m answers a h d = (
+    a,
+    t,
+    [],
+    subst (λ (x : S). HasEffect read write x m a t) h.1 d,
+    ap (λ (xs : List (List ℕ)). xs ++ option_to_list a) h.0
+        ∙ sym (append-nil (option_to_list a)),
+    (refl, refl),
+  )
+  DoAll-push s u t (n ∷ ms) m answers a h d = (
+    h.0,
+    h.1,
+    h.2 ++ option_to_list a,
+    h.3,
+    ap (λ (xs : List (List ℕ)). xs ++ option_to_list a) h.4 ∙ append_assoc (option_to_list h.0) h.2
+        (option_to_list a),
+    DoAll-push h.1 u t ms m h.2 a h.5 d,
+  )
 
   All-push : (ms : List Message) (m : Message) → All IsMessage ms → IsMessage m → All IsMessage (ms ++ m ∷ [])
   All-push ms m h p = λ k d l.
@@ -29,10 +44,13 @@ module _ {S : Type 0} (read : S → ℕ → Result ℕ StoreFault) (write : S �
       ]
 
   -- what has come so far, and one more byte
-  pub so_far : (s : S) (text : List ℕ) (answers : List (List ℕ)) (old : Pending) (st : S) (byte : ℕ) (result : Result (Option (List ℕ)) AnswerFault) (new : Pending) (t : S) → Feeds read write old st byte result new t → HasAnswered read write s text answers old st → IfOk result (λ r. HasAnswered read write s (text ++ byte ∷ []) (answers ++ option_to_list r) new t)
+  pub so_far : (s : S) (text : List ℕ) (answers : List (List ℕ)) (old : Pending) (st : S) (byte : ℕ) (result : Result (Option (List ℕ)) AnswerFault)
+      (new : Pending) (t : S) → Feeds read write old st byte result new t → HasAnswered read write s text answers old st
+      → IfOk result (λ r. HasAnswered read write s (text ++ byte ∷ []) (answers ++ option_to_list r) new t)
   so_far s text answers old st byte (Err e) new t f h = tt
   so_far s text answers old st byte (Ok r) new t f h =
-      let longer : text ++ byte ∷ [] ≡ flat_map spell h.messages ++ (old.bytes ++ byte ∷ []) = ap (λ (xs : List ℕ). xs ++ byte ∷ []) h.whole ∙ append_assoc (flat_map spell h.messages) old.bytes (byte ∷ []) in
+      let longer : text ++ byte ∷ [] ≡ flat_map spell h.messages ++ (old.bytes ++ byte ∷ []) = ap (λ (xs : List ℕ). xs ++ byte ∷ []) h.whole
+      ∙ append_assoc (flat_map spell h.messages) old.bytes (byte ∷ []) in
       elim f.2 [
         | inl w ↦ record {
           messages = h.messages;
@@ -47,7 +65,9 @@ module _ {S : Type 0} (read : S → ℕ → Result ℕ StoreFault) (write : S �
         | inr e ↦ record {
           messages = h.messages ++ e.message ∷ [];
           each = All-push h.messages e.message h.each e.fits;
-          whole = longer ∙ ap (λ (xs : List ℕ). flat_map spell h.messages ++ xs) e.whole ∙ whole_more h.messages e.message ∙ sym (append-nil (flat_map spell (h.messages ++ e.message ∷ []))) ∙ ap (λ (xs : List ℕ). flat_map spell (h.messages ++ e.message ∷ []) ++ xs) (sym e.rest);
+          whole = longer ∙ ap (λ (xs : List ℕ). flat_map spell h.messages ++ xs) e.whole ∙ whole_more h.messages e.message
+              ∙ sym (append-nil (flat_map spell (h.messages ++ e.message ∷ []))) ∙ ap (λ (xs : List ℕ). flat_map spell (h.messages ++ e.message ∷ []) ++ xs)
+              (sym e.rest);
           partial = subst IsPartial (sym e.rest) tt;
           alive = f.1;
           did = DoAll-push s st t h.messages e.message answers r h.did e.does;

@@ -15,7 +15,10 @@ use Rattle.peek_poke.specs.declared.fault.StoreFault.{StoreFault}
 use Rattle.peek_poke.specs.declared.fault.StoreFault.TheVariants.{Misaligned, Outside}
 
 -- a text that is long enough for its control byte is a message
-pub text_whole : (bs : List ℕ) (n b w : ℕ) (m : Message) → length bs ≡ POKE_BYTES → n < POKE_BYTES → IsPartial (take n bs) → w ≤ n + 1 → ((get_or (set bs n b) 0 0 ≡ POKE) × (w ≡ POKE_BYTES)) ⊎ ((get_or (set bs n b) 0 0 ≡ POKE → ⊥) × (w ≡ PEEK_BYTES)) → (get_or (set bs n b) 0 0 ≡ POKE → spell m ≡ set bs n b) → (get_or (set bs n b) 0 0 ≡ PEEK → spell m ≡ take PEEK_BYTES (set bs n b)) → take n bs ++ b ∷ [] ≡ spell m
+pub text_whole : (bs : List ℕ) (n b w : ℕ) (m : Message) → length bs ≡ POKE_BYTES → n < POKE_BYTES → IsPartial (take n bs) → w ≤ n + 1
+    → ((get_or (set bs n b) 0 0 ≡ POKE) × (w ≡ POKE_BYTES)) ⊎ ((get_or (set bs n b) 0 0 ≡ POKE → ⊥) × (w ≡ PEEK_BYTES))
+    → (get_or (set bs n b) 0 0 ≡ POKE → spell m ≡ set bs n b) → (get_or (set bs n b) 0 0 ≡ PEEK → spell m ≡ take PEEK_BYTES (set bs n b)) → take n bs ++ b ∷ []
+    ≡ spell m
 text_whole [] n b w m l h p e c poke peek = absurd (omega arith)
 text_whole (x ∷ xs) zero b w m l h p e c poke peek = absurd (elim c [ inl d ↦ omega arith | inr d ↦ omega arith ])
 text_whole (x ∷ xs) (suc k) b w m l h p e c poke peek =
@@ -31,7 +34,8 @@ text_whole (x ∷ xs) (suc k) b w m l h p e c poke peek =
     ]
 
 -- a refusal by the store is the cause of the fault of its name
-pub cause_of : {S : Type 0} (read : S → ℕ → Result ℕ StoreFault) (write : S → ℕ → ℕ → Result S StoreFault) (old : Pending) (s : S) (b : ℕ) (e : StoreFault) → old.failed ≡ false → EndsRefused read write old s b e → IsCause read write old s b (answer_fault e)
+pub cause_of : {S : Type 0} (read : S → ℕ → Result ℕ StoreFault) (write : S → ℕ → ℕ → Result S StoreFault) (old : Pending) (s : S) (b : ℕ) (e : StoreFault)
+    → old.failed ≡ false → EndsRefused read write old s b e → IsCause read write old s b (answer_fault e)
 cause_of read write old s b Misaligned f h = (f, h)
 cause_of read write old s b Outside f h = (f, h)
 
@@ -46,13 +50,15 @@ same_ok : {A B : Type 0} (x y : A) → ◌≡◌ {A = Result A B} (Ok x) (Ok y) 
 same_ok x y e = cc
 
 -- what answers a peek: the bytes of the word that the store has there
-answered_by : {S : Type 0} (read : ReadsWord S) (write : WritesWord S) (s t : S) (a : ℕ) (reply : List ℕ) → a < 2 ^ 32 → (m : Message) → IsMessage m → spell (Peek a) ≡ spell m → HasEffect read write s m (Some reply) t → (w : ℕ) × (w < 2 ^ 32) × (read s a ≡ Ok w) × (reply ≡ word_bytes w)
+answered_by : {S : Type 0} (read : ReadsWord S) (write : WritesWord S) (s t : S) (a : ℕ) (reply : List ℕ) → a < 2 ^ 32 → (m : Message) → IsMessage m
+    → spell (Peek a) ≡ spell m → HasEffect read write s m (Some reply) t → (w : ℕ) × (w < 2 ^ 32) × (read s a ≡ Ok w) × (reply ≡ word_bytes w)
 answered_by read write s t a reply h (Poke x w) f e d = absurd (some_not_none reply d.0)
 answered_by read write s t a reply h (Peek x) f e d =
     let same : word_bytes a ≡ word_bytes x = ap (λ (xs : List ℕ). drop 1 xs) e in
     (d.1.0, d.1.1, ap (read s) (same_words a x h f same) ∙ d.1.2, same_Some reply (word_bytes d.1.0) d.1.3)
 
-module _ {S : Type 0} (read : ReadsWord S) (write : WritesWord S) (old new : Pending) (s t : S) (b a : ℕ) (reply : List ℕ) (fits : a < 2 ^ 32) (fed : Feeds read write old s b (Ok (Some reply)) new t) (whole : old.bytes ++ b ∷ [] ≡ spell (Peek a)) where
+module _ {S : Type 0} (read : ReadsWord S) (write : WritesWord S) (old new : Pending) (s t : S) (b a : ℕ) (reply : List ℕ) (fits : a < 2 ^ 32)
+    (fed : Feeds read write old s b (Ok (Some reply)) new t) (whole : old.bytes ++ b ∷ [] ≡ spell (Peek a)) where
   answered : (w : ℕ) × (w < 2 ^ 32) × (read s a ≡ Ok w) × (reply ≡ word_bytes w)
   answered =
       elim fed.2 [

@@ -1,7 +1,8 @@
 -- A block of a module as a store of its own: the addresses are those of a window of the module, and
 -- every address of another block is outside.
 -- This project's choice.
-use Rattle.std.specs.Prelude.{ℕ, ◌≡◌, ◌/◌, ◌%◌, ◌&&◌, ◌==◌, Bool, nat_lt, nat_le, length, slice_index, Result, Ok, Err, if◌then◌else◌}
+use Rattle.std.specs.Prelude.{ℕ, ◌≡◌, ◌/◌, ◌%◌, ◌&&◌, ◌==◌, Bool, nat_lt, nat_le, length}
+use Rattle.std.specs.Prelude.{slice_index, Result, Ok, Err, if◌then◌else◌}
 use Rattle.module_memory.specs.declared.address.TheConstants.{HOLD_START, WORD_BYTES}
 use Rattle.batch.specs.Places.{HasPlace}
 use Rattle.batch.specs.declared.transfer.Place.{Place}

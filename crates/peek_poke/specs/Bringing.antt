@@ -3,11 +3,11 @@ use Rattle.std.specs.Prelude.{ℕ, ◌≡◌, List, [], ◌∷◌, ◌++◌, Boo
 use Rattle.link_bytes.specs.declared.packet.Packet.{Packet}
 use Rattle.link_bytes.specs.declared.packet.Packet.TheVariants.{Byte, Ack}
 use Rattle.link_bytes.specs.Line.{IsPacket, packet_bits}
-use Rattle.link_bytes.specs.Reading.{Reading, begun}
+use Rattle.link_bytes.specs.Reading.{PacketView, begun}
 
 -- a line: what has come of the next packet, and the bytes of the data packets that it brought
 pub record Brought : Type 0 where
-  pub reading : Reading
+  pub reading : PacketView
   pub bytes : List ℕ
 
 -- the byte of a data packet
@@ -16,7 +16,7 @@ data_of (Byte byte) = byte ∷ []
 data_of Ack = []
 
 -- the bits of a packet are read as that packet, and nothing of a next one has come
-abbrev pub ReadsPacket : List Bool → Option Packet → Reading → Type 0
+abbrev pub ReadsPacket : List Bool → Option Packet → PacketView → Type 0
 ReadsPacket bits result new = (packet : Packet) → IsPacket packet → bits ≡ packet_bits packet
     → (result ≡ Some packet) × (new ≡ begun [])
 

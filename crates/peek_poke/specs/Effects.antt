@@ -1,15 +1,18 @@
 -- What messages do to a store, and how they are taken byte by byte: INMOS IMS T414 data sheet, peek
 -- and poke over a link. The refusals, and that an answering end which refused has failed, are this
 -- project's choice.
-use Rattle.std.specs.Prelude.{ℕ, ◌≡◌, ◌<◌, ◌^◌, ◌⊎◌, List, [], ◌∷◌, ◌++◌, true, false, Option, Some, None, Result, Ok, Err, IfOk, MatchResult, All, option_to_list}
+use Rattle.std.specs.Prelude.{ℕ, ◌≡◌, ◌<◌, ◌^◌, ◌⊎◌, List, [], ◌∷◌, ◌++◌, true, false, Option, Some}
+use Rattle.std.specs.Prelude.{None, Result, Ok, Err, IfOk, MatchResult, All, option_to_list}
 use Rattle.std.specs.List.{flat_map}
 use Rattle.peek_poke.specs.declared.message.TheConstants.{PEEK}
 use Rattle.peek_poke.specs.declared.message.Message.{Message}
 use Rattle.peek_poke.specs.declared.message.Message.TheVariants.{Poke, Peek}
 use Rattle.peek_poke.specs.declared.fault.StoreFault.{StoreFault}
-use Rattle.peek_poke.specs.declared.fault.StoreFault.TheVariants.{Misaligned as StoreMisaligned, Outside as StoreOutside}
+use Rattle.peek_poke.specs.declared.fault.StoreFault.TheVariants.{Misaligned as StoreMisaligned}
+use Rattle.peek_poke.specs.declared.fault.StoreFault.TheVariants.{Outside as StoreOutside}
 use Rattle.peek_poke.specs.declared.fault.AnswerFault.{AnswerFault}
-use Rattle.peek_poke.specs.declared.fault.AnswerFault.TheVariants.{Boot, Misaligned, Outside, Failed}
+use Rattle.peek_poke.specs.declared.fault.AnswerFault.TheVariants.{Boot, Misaligned, Outside}
+use Rattle.peek_poke.specs.declared.fault.AnswerFault.TheVariants.{Failed}
 use Rattle.peek_poke.specs.Messages.{word_bytes, spell, IsMessage, IsPartial, Pending}
 
 -- what reads of a store give
@@ -23,7 +26,8 @@ WritesWord S = S → ℕ → ℕ → Result S StoreFault
 -- a message makes one store of another: a poke writes its word, a peek answers the word as it is
 abbrev pub HasEffect : {S : Type 0} → ReadsWord S → WritesWord S → S → Message → Option (List ℕ) → S
     → Type 0
-HasEffect read write s (Poke address word) answer t = (answer ≡ None) × (write s address word ≡ Ok t)
+HasEffect read write s (Poke address word) answer t = (answer ≡ None)
+    × (write s address word ≡ Ok t)
 HasEffect read write s (Peek address) answer t =
     (t ≡ s)
     × ((word : ℕ) × (word < 2 ^ 32) × (read s address ≡ Ok word)
@@ -39,7 +43,8 @@ abbrev pub DoAll : {S : Type 0} → ReadsWord S → WritesWord S → S → List 
     → Type 0
 DoAll read write s [] answers t = (answers ≡ []) × (t ≡ s)
 DoAll {S} read write s (m ∷ ms) answers t =
-    (answer : Option (List ℕ)) × (u : S) × (more : List (List ℕ)) × HasEffect read write s m answer u
+    (answer : Option (List ℕ)) × (u : S) × (more : List (List ℕ)) × HasEffect read write s m answer
+    u
     × (answers ≡ option_to_list answer ++ more) × DoAll read write u ms more t
 
 -- the text is that of messages, which made the one store of the other, with these answers, and then

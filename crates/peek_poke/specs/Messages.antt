@@ -1,6 +1,7 @@
 -- The messages to an answering end and their bytes: INMOS IMS T414 data sheet, peek and poke over a
 -- link.
-use Rattle.std.specs.Prelude.{ℕ, ◌≡◌, ◌<◌, ◌+◌, ◌^◌, ◌⊎◌, List, [], ◌∷◌, ◌++◌, length, take, Bool, false}
+use Rattle.std.specs.Prelude.{ℕ, ◌≡◌, ◌<◌, ◌+◌, ◌^◌, ◌⊎◌, List, [], ◌∷◌, ◌++◌, length, take, Bool}
+use Rattle.std.specs.Prelude.{false}
 use Rattle.std.specs.Int.{to_le_bytes}
 use mir.Syntax.{w32}
 use Rattle.peek_poke.specs.declared.message.TheConstants.{POKE, PEEK, POKE_BYTES, PEEK_BYTES}

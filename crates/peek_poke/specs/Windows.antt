@@ -1,7 +1,9 @@
 -- A module of a rack as a store. This project's choice.
 use Rattle.std.specs.Prelude.{ℕ, Option, Some, None, Result, Ok, Err}
 use Rattle.module_memory.specs.declared.fault.MemoryFault.{MemoryFault}
-use Rattle.module_memory.specs.declared.fault.MemoryFault.TheVariants.{NoModule as RackNoModule, Misaligned as RackMisaligned, Outside as RackOutside}
+use Rattle.module_memory.specs.declared.fault.MemoryFault.TheVariants.{NoModule as RackNoModule}
+use Rattle.module_memory.specs.declared.fault.MemoryFault.TheVariants.{Misaligned as RackMisaligned}
+use Rattle.module_memory.specs.declared.fault.MemoryFault.TheVariants.{Outside as RackOutside}
 use Rattle.module_memory.specs.Address.{fault_of, word_at, write_at}
 use Rattle.peek_poke.specs.declared.fault.StoreFault.{StoreFault}
 use Rattle.peek_poke.specs.declared.fault.StoreFault.TheVariants.{Misaligned, Outside}

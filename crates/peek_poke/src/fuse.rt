@@ -1,8 +1,10 @@
 //! Wires that fail after so many bytes.
 
-ghost use Rattle.std.specs.Prelude.{◌≡◌, ◌≢◌, ◌<◌, ◌≤◌, ◌+◌, ◌-◌, ◌↔◌, [], ◌∷◌, ◌++◌, Some, IsOk, IfOk, OnOk, OnErr};
+ghost use Rattle.std.specs.Prelude.{◌≡◌, ◌≢◌, ◌<◌, ◌≤◌, ◌+◌, ◌-◌, ◌↔◌, [], ◌∷◌, ◌++◌, Some, IsOk};
+ghost use Rattle.std.specs.Prelude.{IfOk, OnOk, OnErr};
 ghost use Rattle.std.specs.Option.{option_map};
-ghost use Rattle.peek_poke.specs.FuseLines.{remaining_of, failures_of, carried_by, IsWhole, HasByte};
+ghost use Rattle.peek_poke.specs.FuseLines.{remaining_of, failures_of, carried_by, IsWhole};
+ghost use Rattle.peek_poke.specs.FuseLines.{HasByte};
 
 use crate::fault::WireFault;
 use crate::plain::PlainWire;

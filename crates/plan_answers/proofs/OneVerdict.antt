@@ -16,7 +16,9 @@ use Rattle.plan_answers.proofs.OneReading.{same_texts, texts_right, one_text_wro
 use Rattle.plan_answers.proofs.Printing.{printed_same, refused_same}
 
 -- what is judged is shown
-pub shown_from : (shape : ShapeView) (batch schedule : List ℕ) (ts : List Transfer) (settings : List (List ℕ)) (certificate : Option Naming) (count : ℕ) → AreTexts shape batch schedule ts settings certificate → IsSomeAnd certificate (IsCertified ts settings) → count ≡ length settings → IsShown shape batch schedule count
+pub shown_from : (shape : ShapeView) (batch schedule : List ℕ) (ts : List Transfer) (settings : List (List ℕ)) (certificate : Option Naming) (count : ℕ)
+    → AreTexts shape batch schedule ts settings certificate → IsSomeAnd certificate (IsCertified ts settings) → count ≡ length settings
+    → IsShown shape batch schedule count
 shown_from shape batch schedule ts settings None count texts judged counted = absurd judged
 shown_from shape batch schedule ts settings (Some named) count texts judged counted = record {
   transfers = ts;
@@ -29,8 +31,10 @@ shown_from shape batch schedule ts settings (Some named) count texts judged coun
 }
 
 -- what is shown has nothing wrong
-shown_right : (shape : ShapeView) → IsShape shape → (batch schedule : List ℕ) (count : ℕ) (refusal : Refusal) → IsShown shape batch schedule count → IsFirstWrong shape batch schedule refusal → ⊥
-shown_right shape valid batch schedule count refusal a (unread wrong) = texts_right shape valid batch schedule a.transfers a.settings (Some a.named) refusal a.texts wrong
+shown_right : (shape : ShapeView) → IsShape shape → (batch schedule : List ℕ) (count : ℕ) (refusal : Refusal) → IsShown shape batch schedule count
+    → IsFirstWrong shape batch schedule refusal → ⊥
+shown_right shape valid batch schedule count refusal a (unread wrong) = texts_right shape valid batch schedule a.transfers a.settings (Some a.named) refusal
+    a.texts wrong
 shown_right shape valid batch schedule count refusal a (unshown ts xs m texts wrong) =
     let found = same_texts (λ t x n. IsUnshown t x n refusal) shape valid batch schedule a.transfers ts a.settings xs (Some a.named) m a.texts texts wrong in
     none_wrong a.transfers a.settings a.named found.0 a.shortest.schedule a.certificate found.1
@@ -40,7 +44,8 @@ one_unshown : (ts : List Transfer) (xs : List (List ℕ)) (m : Option Naming) (q
 one_unshown ts xs None q r a b = a ∙ sym b
 one_unshown ts xs (Some named) q r a b = a.2 ∙ ap of_check (same_fault ts xs named a.0 b.0 a.1 b.1) ∙ sym b.2
 
-one_wrong : (shape : ShapeView) → IsShape shape → (batch schedule : List ℕ) (q r : Refusal) → IsFirstWrong shape batch schedule q → IsFirstWrong shape batch schedule r → q ≡ r
+one_wrong : (shape : ShapeView) → IsShape shape → (batch schedule : List ℕ) (q r : Refusal) → IsFirstWrong shape batch schedule q
+    → IsFirstWrong shape batch schedule r → q ≡ r
 one_wrong shape valid batch schedule q r (unread a) (unread b) = one_text_wrong shape valid batch schedule q r a b
 one_wrong shape valid batch schedule q r (unread a) (unshown ts xs m texts b) = absurd (texts_right shape valid batch schedule ts xs m q texts a)
 one_wrong shape valid batch schedule q r (unshown ts xs m texts a) (unread b) = absurd (texts_right shape valid batch schedule ts xs m r texts b)
@@ -49,9 +54,11 @@ one_wrong shape valid batch schedule q r (unshown ts xs m texts a) (unshown us y
 
 one_count : (shape : ShapeView) → IsShape shape → (batch schedule : List ℕ) (m n : ℕ) → IsShown shape batch schedule m → IsShown shape batch schedule n → m ≡ n
 one_count shape valid batch schedule m n a b =
-    a.counted ∙ same_texts (λ ts xs named. length xs ≡ n) shape valid batch schedule a.transfers b.transfers a.settings b.settings (Some a.named) (Some b.named) a.texts b.texts (sym b.counted)
+    a.counted ∙ same_texts (λ ts xs named. length xs ≡ n) shape valid batch schedule a.transfers b.transfers a.settings b.settings (Some a.named) (Some b.named)
+    a.texts b.texts (sym b.counted)
 
-pub one_verdict : (shape : ShapeView) → IsShape shape → (batch schedule : List ℕ) (p q : Printed) → IsChecked shape batch schedule p → IsChecked shape batch schedule q → q ≡ p
+pub one_verdict : (shape : ShapeView) → IsShape shape → (batch schedule : List ℕ) (p q : Printed) → IsChecked shape batch schedule p
+    → IsChecked shape batch schedule q → q ≡ p
 one_verdict shape valid batch schedule p q (shortest m a prints ends) (shortest n b says stops) =
     printed_same q p (says ∙ ap shortest_line (sym (one_count shape valid batch schedule m n a b)) ∙ sym prints) (stops ∙ sym ends)
 one_verdict shape valid batch schedule p q (shortest m a prints ends) (refused r b is) = absurd (shown_right shape valid batch schedule m r a b)

@@ -18,20 +18,24 @@ pub range_parts : (range : SettingRange) → range_text range ≡ number range.f
 range_parts range = simp append_assoc
 
 -- the parts that were read are those of each range that the text spells
-pub to_first : (text : List ℕ) (n : ℕ) (rest : List ℕ) (b : SettingRange) → IsNumber n × (text ≡ number n point ++ rest) → DenotesRange text b → (n ≡ b.first) × (rest ≡ point ∷ decimal b.last)
+pub to_first : (text : List ℕ) (n : ℕ) (rest : List ℕ) (b : SettingRange) → IsNumber n × (text ≡ number n point ++ rest) → DenotesRange text b → (n ≡ b.first)
+    × (rest ≡ point ∷ decimal b.last)
 to_first text n rest b read d = one_number n b.first point rest (point ∷ decimal b.last) read.0 d.first ends_point (sym read.1 ∙ d.spelled ∙ range_parts b)
 
-pub to_more : (text : List ℕ) (n : ℕ) (rest more : List ℕ) (b : SettingRange) → IsNumber n × (text ≡ number n point ++ rest) → rest ≡ point ∷ more → DenotesRange text b → (n ≡ b.first) × (more ≡ decimal b.last)
+pub to_more : (text : List ℕ) (n : ℕ) (rest more : List ℕ) (b : SettingRange) → IsNumber n × (text ≡ number n point ++ rest) → rest ≡ point ∷ more
+    → DenotesRange text b → (n ≡ b.first) × (more ≡ decimal b.last)
 to_more text n rest more b read next d =
     let p = to_first text n rest b read d in
     (p.0, tail_same point point more (decimal b.last) (sym next ∙ p.1))
 
-pub to_last : (text : List ℕ) (n m : ℕ) (rest more : List ℕ) (b : SettingRange) → IsNumber n × (text ≡ number n point ++ rest) → rest ≡ point ∷ more → IsNumber m × (more ≡ decimal m) → DenotesRange text b → (n ≡ b.first) × (m ≡ b.last)
+pub to_last : (text : List ℕ) (n m : ℕ) (rest more : List ℕ) (b : SettingRange) → IsNumber n × (text ≡ number n point ++ rest) → rest ≡ point ∷ more
+    → IsNumber m × (more ≡ decimal m) → DenotesRange text b → (n ≡ b.first) × (m ≡ b.last)
 to_last text n m rest more b read next last d =
     let p = to_more text n rest more b read next d in
     (p.0, decimal_injective m b.last (omega (arith, last.0)) (omega (arith, d.last)) (sym last.1 ∙ p.1))
 
-pub spelled : (text : List ℕ) (n m : ℕ) (rest more : List ℕ) → text ≡ number n point ++ rest → rest ≡ point ∷ more → more ≡ decimal m → text ≡ range_text (record { first = n; last = m })
+pub spelled : (text : List ℕ) (n m : ℕ) (rest more : List ℕ) → text ≡ number n point ++ rest → rest ≡ point ∷ more → more ≡ decimal m → text
+    ≡ range_text (record { first = n; last = m })
 spelled text n m rest more a b c =
     a ∙ ap (λ (x : List ℕ). number n point ++ x) (b ∙ ap (λ (x : List ℕ). point ∷ x) c) ∙ sym (range_parts (record { first = n; last = m }))
 

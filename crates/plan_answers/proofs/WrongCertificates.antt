@@ -30,7 +30,8 @@ of_certificate refusal (inr (inl is)) = subst IsOfCertificate (sym is.1) tt
 of_certificate refusal (inr (inr is)) = subst IsOfCertificate (sym is.2) tt
 
 -- the settings were found right before it was looked at
-scheduled : (ts : List Transfer) (xs : List (List ℕ)) (named : Naming) (fault : CheckFault) → IsFirstCheckFault ts xs named fault → IsOfCertificate (of_check fault) → IsScheduleOf ts xs
+scheduled : (ts : List Transfer) (xs : List (List ℕ)) (named : Naming) (fault : CheckFault) → IsFirstCheckFault ts xs named fault
+    → IsOfCertificate (of_check fault) → IsScheduleOf ts xs
 scheduled ts xs named (check_fault.Unknown t) first of = absurd of
 scheduled ts xs named (check_fault.Repeated t) first of = absurd of
 scheduled ts xs named (check_fault.Missing t) first of = absurd of
@@ -40,6 +41,7 @@ scheduled ts xs named (check_fault.CertificateRepeats t) first of = first.0
 scheduled ts xs named (check_fault.NotTight s u) first of = first.0
 scheduled ts xs named check_fault.NoMemory first of = absurd first
 
-pub valid_then : (ts : List Transfer) (xs : List (List ℕ)) (m : Option Naming) (refusal : Refusal) → IsUnshown ts xs m refusal → IsOneOfThem refusal → IsScheduleOf ts xs
+pub valid_then : (ts : List Transfer) (xs : List (List ℕ)) (m : Option Naming) (refusal : Refusal) → IsUnshown ts xs m refusal → IsOneOfThem refusal
+    → IsScheduleOf ts xs
 valid_then ts xs None refusal is one = absurd (subst IsOfCertificate is (of_certificate refusal one))
 valid_then ts xs (Some named) refusal is one = scheduled ts xs named is.0 is.1 (subst IsOfCertificate is.2 (of_certificate refusal one))

@@ -68,12 +68,13 @@ IsUnshown transfers settings (Some named) refusal =
     × (refusal ≡ of_check fault)
 
 -- what is first wrong: the texts are looked at first, then the schedule
-pub data IsFirstWrong (shape : ShapeView) (batch schedule : List ℕ) (refusal : Refusal) : Type 0 where
-  unread : IsTextWrong shape batch schedule refusal → IsFirstWrong shape batch schedule refusal
-  unshown : (transfers : List Transfer) (settings : List (List ℕ)) (certificate : Option Naming)
-      → AreTexts shape batch schedule transfers settings certificate
-      → IsUnshown transfers settings certificate refusal
-      → IsFirstWrong shape batch schedule refusal
+pub data IsFirstWrong (shape : ShapeView) (batch schedule : List ℕ) (refusal : Refusal) : Type 0
+  where
+    unread : IsTextWrong shape batch schedule refusal → IsFirstWrong shape batch schedule refusal
+    unshown : (transfers : List Transfer) (settings : List (List ℕ)) (certificate : Option Naming)
+        → AreTexts shape batch schedule transfers settings certificate
+        → IsUnshown transfers settings certificate refusal
+        → IsFirstWrong shape batch schedule refusal
 
 -- `shortest S`
 abbrev pub shortest_line : ℕ → List ℕ

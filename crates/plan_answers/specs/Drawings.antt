@@ -1,5 +1,6 @@
 -- What `draw` answers.
-use Rattle.std.specs.Prelude.{◌≡◌, ℕ, ◌<◌, ◌≤◌, ◌+◌, max, List, ◌++◌, length, Option, Some, None, codes, ⊤}
+use Rattle.std.specs.Prelude.{◌≡◌, ℕ, ◌<◌, ◌≤◌, ◌+◌, max, List, ◌++◌, length, Option, Some, None}
+use Rattle.std.specs.Prelude.{codes, ⊤}
 use Rattle.std.specs.Fmt.{decimal}
 use Rattle.batch.specs.declared.transfer.Transfer.{Transfer}
 use Rattle.batch.specs.ShapeView.{ShapeView}
@@ -78,7 +79,8 @@ pub record IsDrawing (shape : ShapeView) (batch schedule : List ℕ) (settings_t
 
 -- What is first wrong: the text of the range is looked at first, then the texts of the batch and of
 -- the schedule, then whether that has all settings of the range.
-pub data IsFirstUndrawn (shape : ShapeView) (batch schedule : List ℕ) (settings_text : Option (List ℕ))
+pub data IsFirstUndrawn (shape : ShapeView) (batch schedule : List ℕ)
+    (settings_text : Option (List ℕ))
     (refusal : Refusal) : Type 0 where
   no_range : IsBadSettingsText settings_text → refusal ≡ Settings
       → IsFirstUndrawn shape batch schedule settings_text refusal

@@ -50,7 +50,8 @@ IsText (Text text) = ⊤
 
 -- The batch is the one that the text denotes, and the settings are those of a schedule of it from
 -- this source.
-abbrev pub IsScheduleFrom : ScheduleSource (List ℕ) → ShapeView → List ℕ → List Transfer → List (List ℕ)
+abbrev pub IsScheduleFrom : ScheduleSource (List ℕ) → ShapeView → List ℕ → List Transfer
+    → List (List ℕ)
     → Type 0
 IsScheduleFrom (Plan planning) shape text batch settings =
     Denotes shape text batch × ((named : Naming) × IsPlannedAs planning batch settings named)

@@ -20,9 +20,10 @@ pub record AreTexts (shape : ShapeView) (batch schedule : List ℕ) (transfers :
 
 -- what is first wrong with the texts: the first fault of the batch text, or after that the first
 -- line at fault of the schedule text
-pub data IsTextWrong (shape : ShapeView) (batch schedule : List ℕ) (refusal : Refusal) : Type 0 where
-  batch_wrong : (fault : BatchFault) → IsFirstFault shape batch fault
-      → refusal ≡ of_batch fault → IsTextWrong shape batch schedule refusal
-  schedule_wrong : (transfers : List Transfer) (line : ℕ) → Denotes shape batch transfers
-      → IsFirstBadLine schedule line → refusal ≡ ScheduleLine line
-      → IsTextWrong shape batch schedule refusal
+pub data IsTextWrong (shape : ShapeView) (batch schedule : List ℕ) (refusal : Refusal) : Type 0
+  where
+    batch_wrong : (fault : BatchFault) → IsFirstFault shape batch fault
+        → refusal ≡ of_batch fault → IsTextWrong shape batch schedule refusal
+    schedule_wrong : (transfers : List Transfer) (line : ℕ) → Denotes shape batch transfers
+        → IsFirstBadLine schedule line → refusal ≡ ScheduleLine line
+        → IsTextWrong shape batch schedule refusal

@@ -7,8 +7,10 @@ ghost use Rattle.schedule_picture.specs.declared.shown.ShownSettings.{ShownSetti
 ghost use Rattle.schedule_picture.specs.declared.verdict.Verdict.{Verdict};
 ghost use Rattle.schedule_picture.specs.Picture.{picture_of};
 ghost use Rattle.schedule_picture.specs.Verdicts.{IsVerdict};
-ghost use Rattle.refusals.specs.declared.refusal.Refusal.TheVariants.{Settings, NoSetting, NoMemory};
-ghost use Rattle.plan_answers.specs.Drawings.{IsInOrder, AreWanted, IsBadSettingsText, AreShown, IsOutside, IsDrawing, IsFirstUndrawn, IsDrawn};
+ghost use Rattle.refusals.specs.declared.refusal.Refusal.TheVariants.{Settings, NoSetting};
+ghost use Rattle.refusals.specs.declared.refusal.Refusal.TheVariants.{NoMemory};
+ghost use Rattle.plan_answers.specs.Drawings.{IsInOrder, AreWanted, IsBadSettingsText, AreShown};
+ghost use Rattle.plan_answers.specs.Drawings.{IsOutside, IsDrawing, IsFirstUndrawn, IsDrawn};
 ghost use Rattle.plan_answers.specs.Lent.{bytes_of};
 
 use crate::answer::Answer;

@@ -15,7 +15,7 @@ use crate::validity::most_uses;
 use batch::{Batch, Shape};
 use link_graph::{LINKS, LinkGraph, Schedule};
 use std::alloc::{AllocError, Global};
-use steady_schedule::{PriceTable, count_changes, best_price_table};
+use steady_schedule::{PriceTable, best_price_table, count_changes};
 
 /// Puts the line of the prices of a length at the end of the text.
 fn push_prices(text: &mut String, prices: &[u32]) -> Result<(), AllocError>

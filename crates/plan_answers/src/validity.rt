@@ -18,7 +18,10 @@ use std::alloc::Global;
 
 /// How the certificate of the texts stands, where their schedule is one of the batch; or what is
 /// first wrong with its settings.
-pub(crate) fn certificate_status_in(alloc: Global, texts: &ReadTexts) -> Result<CertificateStatus, Refusal>
+pub(crate) fn certificate_status_in(
+    alloc: Global,
+    texts: &ReadTexts,
+) -> Result<CertificateStatus, Refusal>
     ensures schedule { OnOk result (IsScheduleOf texts.now.batch texts.now.schedule) }
     ensures standing { IfOk result
         (IsCertificateStatus texts.now.batch texts.now.schedule texts.now.certificate) }

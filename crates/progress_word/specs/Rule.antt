@@ -4,8 +4,8 @@ use mathlib.Core.Option.{some}
 use lib.ListN.{get_elem?}
 use Rattle.progress_word.specs.declared.limits.TheConstants.{ALL_PARTS}
 use Rattle.progress_word.specs.declared.rule.WordView.{WordView}
-use Rattle.progress_word.specs.declared.rule.Step.{Step}
-use Rattle.progress_word.specs.declared.rule.Step.TheVariants.{Make, Load, Raise, Split, Join}
+use Rattle.progress_word.specs.declared.rule.WordStep.{WordStep}
+use Rattle.progress_word.specs.declared.rule.WordStep.TheVariants.{Make, Load, Raise, Split, Join}
 
 abbrev pub view : ℕ → ℕ → ℕ → WordView
 view seen raised parts = record { seen = seen; raised = raised; parts = parts }
@@ -85,7 +85,7 @@ pub record CanStep (views : List WordView) (i : ℕ) (v : WordView) (few : ℕ) 
 -- The five kinds of step: the word is made; it is loaded; it is raised to a value, by `fetch_max`;
 -- a view is split, and the new one gets a part; and a view takes in another, which is absorbed.
 -- Each changes the view that steps, or the two of a split or a join, and a raise alone the word.
-abbrev pub IsStep : Step → Progress → Progress → Type 0
+abbrev pub IsStep : WordStep → Progress → Progress → Type 0
 IsStep Make p q = q ≡ progress 0 (whole_view ∷ [])
 IsStep (Load i) p q =
     (v : WordView) × CanStep p.views i v 0
@@ -108,7 +108,7 @@ MakesRule = (p q : Progress) → IsStep Make p q → HasRule q
 
 -- each step keeps the rule
 abbrev pub KeepsRule : Type 0
-KeepsRule = (step : Step) (p q : Progress) → HasRule p → IsStep step p q → HasRule q
+KeepsRule = (step : WordStep) (p q : Progress) → HasRule p → IsStep step p q → HasRule q
 
 -- who has all parts is alone, and has raised the word to what it is
 abbrev pub HasNoOther : Type 0

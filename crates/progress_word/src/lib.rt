@@ -19,5 +19,5 @@ mod rule;
 mod word;
 
 pub use limits::ALL_PARTS;
-pub use rule::{Step, WordView};
+pub use rule::{WordStep, WordView};
 pub use word::{ProgressWord, Watcher};

@@ -14,7 +14,7 @@ pub struct WordView {
 
 /// The five kinds of atomic step. The numbers are those of the views that step, in the order in
 /// which they were made. No value of it is made.
-pub enum Step {
+pub enum WordStep {
     /// The word is made, with its first view.
     Make,
     /// The word is read.

@@ -4,7 +4,7 @@ ghost use Rattle.std.specs.Prelude.{◌≡◌, ◌+◌, ◌-◌, ◌<◌, ◌≤
 ghost use Rattle.progress_word.specs.Watchers.{watcher_view, IsAt};
 
 use crate::limits::ALL_PARTS;
-use crate::rule::{MergesIn, Loads, SplitsOff, Raises, Rises, WordView};
+use crate::rule::{Loads, MergesIn, Raises, Rises, SplitsOff, WordView};
 use atomic_table::{Seat, Table};
 use std::alloc::{AllocError, Global};
 use std::marker::Model;
@@ -106,6 +106,8 @@ impl ProgressWord {
             (watcher.old.parts + other.parts) }
     {
         let Watcher { seat } = other;
-        self.table.shared.join_seat::<MergesIn>(&mut watcher.seat, seat);
+        self.table
+            .shared
+            .join_seat::<MergesIn>(&mut watcher.seat, seat);
     }
 }

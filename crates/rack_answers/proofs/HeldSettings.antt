@@ -65,14 +65,16 @@ among_started p (q ∷ ps) among = elim (cases_Bool (is_pair p q)) [
       ]
 ]
 
-among_modules : (p : Pair) (ps : List Pair) (m n : ℕ) → m ≤ p.initiator → p.initiator < m + n → Among ps p → Among (flat_map (started_by ps) (range_with_len m n)) p
+among_modules : (p : Pair) (ps : List Pair) (m n : ℕ) → m ≤ p.initiator → p.initiator < m + n → Among ps p
+    → Among (flat_map (started_by ps) (range_with_len m n)) p
 among_modules p ps m zero le lt among = absurd (omega arith)
 among_modules p ps m (suc n) le lt among =
     let rest : List Pair = flat_map (started_by ps) (range_with_len (m + 1) n) in
     list_any-append (is_pair p) (started_by ps m) rest
     ∙ elim (cases_eq m p.initiator) [
       | inl e ↦
-          let here : list_any (is_pair p) (started_by ps m) ≡ true = subst (λ (i : ℕ). list_any (is_pair p) (started_by ps i) ≡ true) (sym e) (among_started p ps among) in
+          let here : list_any (is_pair p) (started_by ps m) ≡ true = subst (λ (i : ℕ). list_any (is_pair p) (started_by ps i) ≡ true) (sym e)
+          (among_started p ps among) in
           rw here refl
       | inr ne ↦
           let later : list_any (is_pair p) rest ≡ true = among_modules p ps (m + 1) n (omega arith) (omega arith) among in
@@ -97,36 +99,49 @@ among_pairs (x ∷ ts) p joined =
 abbrev IsLow : Transfer → Type 0
 IsLow x = x.initiator < MAX_MODULES
 
-all_among : (ts us : List Transfer) → AllByRecursion IsLow ts → join_within ts us ≡ true → AllByRecursion (Among (in_order (map joined_pair us))) (map joined_pair ts)
+all_among : (ts us : List Transfer) → AllByRecursion IsLow ts → join_within ts us ≡ true → AllByRecursion (Among (in_order (map joined_pair us)))
+    (map joined_pair ts)
 all_among [] us low within = tt
 all_among (x ∷ ts) us low within =
     let both = and_parts (are_partners us x.initiator x.responder) (join_within ts us) within in
     (among_in_order (joined_pair x) (map joined_pair us) low.0 (among_pairs us (joined_pair x) both.0), all_among ts us low.1 both.1)
 
-none_left : (ts us : List Transfer) → AllByRecursion IsLow ts → join_within ts us ≡ true → without (in_order (map joined_pair us)) (in_order (map joined_pair ts)) ≡ []
+none_left : (ts us : List Transfer) → AllByRecursion IsLow ts → join_within ts us ≡ true → without (in_order (map joined_pair us))
+    (in_order (map joined_pair ts)) ≡ []
 none_left ts us low within =
-    without_none (in_order (map joined_pair us)) (in_order (map joined_pair ts)) (all_in_order (Among (in_order (map joined_pair us))) (map joined_pair ts) (all_among ts us low within))
+    without_none (in_order (map joined_pair us)) (in_order (map joined_pair ts)) (all_in_order (Among (in_order (map joined_pair us))) (map joined_pair ts)
+    (all_among ts us low within))
 
 -- ---- settings
 
 members_are : (batch : List Transfer) (s : List ℕ) → All (λ t. t < length batch) s → members batch s ≡ setting_of batch s
 members_are batch [] known = refl
 members_are batch (t ∷ s) known =
-    rw (slice_get-get_or batch t no_transfer (All-head (λ u. u < length batch) t s known)) (ap (λ (ts : List Transfer). transfer_at batch t ∷ ts) (members_are batch s (All-tail (λ u. u < length batch) t s known)))
+    rw (slice_get-get_or batch t no_transfer (All-head (λ u. u < length batch) t s known))
+    (ap (λ (ts : List Transfer). transfer_at batch t ∷ ts) (members_are batch s (All-tail (λ u. u < length batch) t s known)))
 
 all_low : (batch : List Transfer) (s : List ℕ) → IsBatch batch → All (λ t. t < length batch) s → AllByRecursion IsLow (setting_of batch s)
 all_low batch [] fits known = tt
-all_low batch (t ∷ s) fits known = ((fits.within t no_transfer (All-head (λ u. u < length batch) t s known)).0.0, all_low batch s fits (All-tail (λ u. u < length batch) t s known))
+all_low batch (t ∷ s) fits known = (
+  (fits.within t no_transfer (All-head (λ u. u < length batch) t s known)).0.0,
+  all_low batch s fits (All-tail (λ u. u < length batch) t s known),
+)
 
-same_settled : (batch : List Transfer) (one other : List ℕ) (wiring : Wiring) → IsBatch batch → All (λ t. t < length batch) one → All (λ t. t < length batch) other → join_same batch one other ≡ true → change wiring (in_order (setting_pairs batch one)) (in_order (setting_pairs batch other)) ≡ Settle ∷ []
+same_settled : (batch : List Transfer) (one other : List ℕ) (wiring : Wiring) → IsBatch batch → All (λ t. t < length batch) one
+    → All (λ t. t < length batch) other → join_same batch one other ≡ true → change wiring (in_order (setting_pairs batch one))
+    (in_order (setting_pairs batch other)) ≡ Settle ∷ []
 same_settled batch one other wiring fits known known_too same =
     let both = and_parts (join_within (members batch one) (members batch other)) (join_within (members batch other) (members batch one)) same in
     let one_is = members_are batch one known in
     let other_is = members_are batch other known_too in
     let within : join_within (setting_of batch one) (setting_of batch other) ≡ true = rw (one_is, other_is) at both.0 in
     let back : join_within (setting_of batch other) (setting_of batch one) ≡ true = rw (one_is, other_is) at both.1 in
-    rw (none_left (setting_of batch one) (setting_of batch other) (all_low batch one fits known) within, none_left (setting_of batch other) (setting_of batch one) (all_low batch other fits known_too) back) refl
+    rw (
+      none_left (setting_of batch one) (setting_of batch other) (all_low batch one fits known) within,
+      none_left (setting_of batch other) (setting_of batch one) (all_low batch other fits known_too) back,
+    ) refl
 
 pub held_is_settled : HeldIsSettled
 held_is_settled batch settings k wiring fits is lt same =
-    rw (add-one k) (same_settled batch (get_or settings k []) (get_or settings (suc k) []) wiring fits (is.no_other k [] (omega arith)) (is.no_other (suc k) [] (omega arith)) (rw (add-one k) at same))
+    rw (add-one k) (same_settled batch (get_or settings k []) (get_or settings (suc k) []) wiring fits (is.no_other k [] (omega arith))
+    (is.no_other (suc k) [] (omega arith)) (rw (add-one k) at same))

@@ -12,13 +12,15 @@ use Rattle.plan_answers.specs.Refusals.{Printed, IsRefused}
 use Rattle.rack_answers.specs.Switching.{IsOn, wired, miswired}
 
 -- what is so of the board is so of the text
-pub on_board : (Is : Option Board → Printed → Type 0) (text : Option (Bor (List ℕ))) (board : Option Board) (p : Printed) → IsBoardOf (option_map (λ (lent : Bor (List ℕ)). lent.now) text) board → Is board p → IsOn Is (bytes_of text) p
+pub on_board : (Is : Option Board → Printed → Type 0) (text : Option (Bor (List ℕ))) (board : Option Board) (p : Printed)
+    → IsBoardOf (option_map (λ (lent : Bor (List ℕ)). lent.now) text) board → Is board p → IsOn Is (bytes_of text) p
 on_board Is None None p is so = so
 on_board Is None (Some board) p is so = absurd is
 on_board Is (Some text) None p is so = absurd is
 on_board Is (Some text) (Some board) p is so = wired board is so
 
 -- and its first line at fault is refused
-pub on_fault : (Is : Option Board → Printed → Type 0) (text : Option (Bor (List ℕ))) (fault : WiringFault) (p : Printed) → IsMiswired (option_map (λ (lent : Bor (List ℕ)). lent.now) text) fault → IsRefused (refusal_words (of_wiring fault)) p → IsOn Is (bytes_of text) p
+pub on_fault : (Is : Option Board → Printed → Type 0) (text : Option (Bor (List ℕ))) (fault : WiringFault) (p : Printed)
+    → IsMiswired (option_map (λ (lent : Bor (List ℕ)). lent.now) text) fault → IsRefused (refusal_words (of_wiring fault)) p → IsOn Is (bytes_of text) p
 on_fault Is None fault p is refused = absurd is
 on_fault Is (Some text) fault p is refused = miswired fault is refused

@@ -15,7 +15,8 @@ zeros_blocks : (extent : ShapeView) → IsShape extent → HasAllBlocks (zeros_o
 zeros_blocks extent valid = (valid, length-replicate (extent.modules * extent.blocks) (replicate extent.words 0))
 
 -- there is one such rack, and it has all its blocks
-pub one_opening : (extent : ShapeView) (image : Option (List ℕ)) (a b : Store) → IsShape extent → IsOfImageOrMarked extent image a → IsOfImageOrMarked extent image b → a ≡ b
+pub one_opening : (extent : ShapeView) (image : Option (List ℕ)) (a b : Store) → IsShape extent → IsOfImageOrMarked extent image a
+    → IsOfImageOrMarked extent image b → a ≡ b
 one_opening extent None a b valid ha hb = one_marked (zeros_of extent) a b (zeros_blocks extent valid) ha hb
 one_opening extent (Some bytes) a b valid ha hb = one_imaged extent bytes a b ha hb
 
@@ -47,9 +48,11 @@ one_wrong extent (Some bytes) (Length m n) NoMemory a b = absurd b
 one_wrong extent (Some bytes) NoMemory g a b = absurd a
 
 -- what is wrong with an image, want of memory aside
-pub image_fault_is : (extent : ShapeView) (bytes : List ℕ) (fault : ImageFault) → IsImageFault extent bytes fault → fault ≢ NoMemory → IsWrongImage extent (Some bytes) fault
+pub image_fault_is : (extent : ShapeView) (bytes : List ℕ) (fault : ImageFault) → IsImageFault extent bytes fault → fault ≢ NoMemory
+    → IsWrongImage extent (Some bytes) fault
 image_fault_is extent bytes (Length is wanted) found known = found
 image_fault_is extent bytes NoMemory found known = known refl
+
 -- ---- a rack whose words are those of an image, or 0
 
 words_blocks : (extent : ShapeView) (image : Option (List ℕ)) (a : Store) → IsShape extent → IsOfImageOrZeros extent image a → HasAllBlocks a

@@ -13,13 +13,15 @@ use Rattle.rack_answers.specs.Openings.{IsOfImageOrMarked}
 use Rattle.rack_answers.specs.Reports.{report_for}
 
 -- a run that is completed leaves what it places
-pub left_by : {E : Type 0} (r : Result Store E) (extent : ShapeView) (image : Option (List ℕ)) (opening : Store) (ts : List Transfer) → IsOfImageOrMarked extent image opening → IfOk r (IsPlaced opening ts) → IfOk r (λ _. IsApart ts) → IfOk r (IsLeftBy extent image ts)
+pub left_by : {E : Type 0} (r : Result Store E) (extent : ShapeView) (image : Option (List ℕ)) (opening : Store) (ts : List Transfer)
+    → IsOfImageOrMarked extent image opening → IfOk r (IsPlaced opening ts) → IfOk r (λ _. IsApart ts) → IfOk r (IsLeftBy extent image ts)
 left_by (Ok left) extent image opening ts is placed apart = record { opening = opening; apart = apart; is_opening = is; is_placed = placed }
 left_by (Err e) extent image opening ts is placed apart = tt
 
 -- a report is one of the schedule that was run
 pub reported : (source : ScheduleSource (List ℕ)) (shape batch : List ℕ) (image : Option (List ℕ)) (schedule : BatchSchedule) (left : Store) (text : List ℕ)
-    → HasRunFrom source shape batch image schedule left → text ≡ report_for source schedule.batch schedule.settings left → IsResult (IsReport source) shape batch image text
+    → HasRunFrom source shape batch image schedule left → text ≡ report_for source schedule.batch schedule.settings left
+    → IsResult (IsReport source) shape batch image text
 reported source shape batch image schedule left text ran printed = record {
   extent = ran.extent;
   transfers = schedule.batch;

@@ -33,8 +33,8 @@ pub record IsReport (source : ScheduleSource (List ℕ)) (extent : ShapeView) (b
   pub scheduled : IsScheduleFrom source extent batch transfers settings
   pub printed : text ≡ report_for source transfers settings left
 
--- A run of transfers on a rack of the shape, whose words are first those of the image, or tell where
--- they stand where there is none: no transfers overlap, and they are placed in what is left.
+-- A run of transfers on a rack of the shape, whose words are first those of the image, or tell
+-- where they stand where there is none: no transfers overlap, and they are placed in what is left.
 pub record IsLeftBy (extent : ShapeView) (image : Option (List ℕ)) (transfers : List Transfer)
     (left : Store) : Type 0 where
   pub opening : Store
@@ -42,8 +42,8 @@ pub record IsLeftBy (extent : ShapeView) (image : Option (List ℕ)) (transfers 
   pub is_opening : IsOfImageOrMarked extent image opening
   pub is_placed : IsPlaced opening transfers left
 
--- the texts are those of a shape and of a batch, and this is printed of a run of the batch on a rack
--- of the shape
+-- the texts are those of a shape and of a batch, and this is printed of a run of the batch on a
+-- rack of the shape
 pub record IsResult (IsTold : ShapeView → List ℕ → List Transfer → Store → List ℕ → Type 0)
     (shape batch : List ℕ) (image : Option (List ℕ)) (text : List ℕ) : Type 0 where
   pub extent : ShapeView
@@ -55,7 +55,8 @@ pub record IsResult (IsTold : ShapeView → List ℕ → List Transfer → Store
   pub told : IsTold extent batch transfers left text
 
 -- such a run of the text's batch by a schedule from this source, on a rack of the text's shape
-pub record HasRunFrom (source : ScheduleSource (List ℕ)) (shape batch : List ℕ) (image : Option (List ℕ))
+pub record HasRunFrom (source : ScheduleSource (List ℕ)) (shape batch : List ℕ)
+    (image : Option (List ℕ))
     (ran : BatchSchedule) (left : Store) : Type 0 where
   pub extent : ShapeView
   pub shape_read : DenotesShape shape extent
@@ -100,7 +101,8 @@ pub data IsAnswerBy (IsTold : ShapeView → List ℕ → List Transfer → Store
       → IsAnswerBy IsTold source shape batch image printed
 
 -- what `run` answers, by a schedule from this source
-abbrev pub IsRunAnswer : ScheduleSource (List ℕ) → List ℕ → List ℕ → Option (List ℕ) → Printed → Type 0
+abbrev pub IsRunAnswer : ScheduleSource (List ℕ) → List ℕ → List ℕ → Option (List ℕ) → Printed
+    → Type 0
 IsRunAnswer source = IsAnswerBy (IsReport source) source
 
 -- what `apply` answers: whatever schedule the transfers moved by, the image is the same

@@ -1,5 +1,6 @@
 -- What `run` prints of a run that was completed. The texts are this project's choice.
-use Rattle.std.specs.Prelude.{◌≡◌, ℕ, ◌*◌, List, [], ◌++◌, Bool, true, false, Option, Some, None, if◌then◌else◌, codes, length}
+use Rattle.std.specs.Prelude.{◌≡◌, ℕ, ◌*◌, List, [], ◌++◌, Bool, true, false, Option, Some, None}
+use Rattle.std.specs.Prelude.{if◌then◌else◌, codes, length}
 use Rattle.std.specs.Global.{Vec}
 use Rattle.std.specs.Fmt.{decimal}
 use Rattle.std.specs.List.{flat_map, range_with_len}

@@ -1,6 +1,7 @@
 -- What `switch` answers: what the switches of a rack are sent for a schedule, setting by setting.
 -- The texts are this project's choice.
-use Rattle.std.specs.Prelude.{◌≡◌, ◌||◌, ℕ, ◌++◌, Bool, List, [], Option, Some, None, if◌then◌else◌, codes, length}
+use Rattle.std.specs.Prelude.{◌≡◌, ◌||◌, ℕ, ◌++◌, Bool, List, [], Option, Some, None, if◌then◌else◌}
+use Rattle.std.specs.Prelude.{codes, length}
 use Rattle.std.specs.Fmt.{decimal}
 use Rattle.std.specs.List.{flat_map, range_with_len}
 use Rattle.batch.specs.ShapeView.{widest}

@@ -7,7 +7,8 @@ ghost use Rattle.module_memory.specs.Core.{FitsIn};
 ghost use Rattle.module_memory.specs.Placing.{IsPlacedImage};
 ghost use Rattle.plan_answers.specs.declared.source.Planning.TheVariants.{Plain};
 ghost use Rattle.plan_answers.specs.declared.source.ScheduleSource.TheVariants.{Plan};
-ghost use Rattle.rack_answers.specs.Answers.{IsResult, IsWrongOf, IsFirstRunWrong, IsApplied, IsImage};
+ghost use Rattle.rack_answers.specs.Answers.{IsResult, IsWrongOf, IsFirstRunWrong, IsApplied};
+ghost use Rattle.rack_answers.specs.Answers.{IsImage};
 ghost use Rattle.refusals.specs.declared.refusal.Refusal.TheVariants.{NoMemory};
 
 use batch::{Batch, Shape};

@@ -4,7 +4,8 @@ ghost use Rattle.std.specs.Prelude.{◌≢◌, IfOk, IfErr};
 ghost use Rattle.module_memory.specs.declared.fault.ImageFault.TheVariants as image_fault;
 ghost use Rattle.plan_answers.specs.Lent.{bytes_of};
 ghost use Rattle.refusals.specs.declared.refusal.Refusal.TheVariants.{NoMemory};
-ghost use Rattle.rack_answers.specs.Openings.{IsOfImageOrZeros, IsRackOf, IsWrongImage, IsWrongRack};
+ghost use Rattle.rack_answers.specs.Openings.{IsOfImageOrZeros, IsRackOf, IsWrongImage};
+ghost use Rattle.rack_answers.specs.Openings.{IsWrongRack};
 
 use batch::Shape;
 use module_memory::{ImageFault, Rack};

@@ -9,7 +9,7 @@ use batch::{Batch, Shape};
 use exchange_limits::WorkerCount;
 use link_graph::Schedule;
 use module_orders::RackOrders;
-use plan_answers::{Answer, Scheduled, ScheduleSource};
+use plan_answers::{Answer, ScheduleSource, Scheduled};
 use refusals::Refusal;
 use schedule_certificate::Planner;
 use std::alloc::{AllocError, Global};

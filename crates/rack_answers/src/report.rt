@@ -3,7 +3,8 @@
 ghost use Rattle.std.specs.Prelude.{◌≡◌, ◌<◌, IfOk, OnOk};
 ghost use Rattle.batch.specs.ShapeView.{IsShape};
 ghost use Rattle.batch.specs.Places.{HasPlace};
-ghost use Rattle.rack_answers.specs.Reports.{words_text, block_head as head_of, block_text, module_text, changes_text, report_of, Adds};
+ghost use Rattle.rack_answers.specs.Reports.{words_text, block_head as head_of, block_text};
+ghost use Rattle.rack_answers.specs.Reports.{module_text, changes_text, report_of, Adds};
 
 use crate::spaced::push_spaced;
 use batch::{Batch, Place, WrittenBlocks};
@@ -88,8 +89,8 @@ fn push_changes(alloc: Global, text: &mut Vec<u8>, changes: Option<usize>) -> Re
 }
 
 /// The report of a run that placed the blocks of a batch in so many settings and left the rack: how
-/// much was done, how often the switch changed, where that is told, and the words of each block that
-/// the batch writes, by module and then by block.
+/// much was done, how often the switch changed, where that is told, and the words of each block
+/// that the batch writes, by module and then by block.
 ///
 /// Takes time that grows with the number of transfers, of blocks, and of words written.
 pub fn report(

@@ -10,7 +10,8 @@ ghost use Rattle.switch_settings.specs.Racks.{HasModulesOf, is_wide as needs_two
 ghost use Rattle.switch_settings.specs.Sending.{turning};
 ghost use Rattle.rack_answers.specs.Boards.{joined_on};
 ghost use Rattle.rack_answers.specs.Reports.{Adds};
-ghost use Rattle.rack_answers.specs.Switching.{bytes_text, setting_head as head_of, switch_line, lines_on, TellsSwitch, IsOn, IsSwitched};
+ghost use Rattle.rack_answers.specs.Switching.{bytes_text, setting_head as head_of, switch_line};
+ghost use Rattle.rack_answers.specs.Switching.{lines_on, TellsSwitch, IsOn, IsSwitched};
 
 use crate::spaced::push_spaced;
 use batch::{Batch, Shape};
@@ -19,7 +20,7 @@ use crossbar::{BoardWiring, Pair, Wiring};
 use exchange_limits::WorkerCount;
 use line_words::{Line, hex2_of};
 use link_graph::Schedule;
-use plan_answers::{Answer, Scheduled, ScheduleSource};
+use plan_answers::{Answer, ScheduleSource, Scheduled};
 use schedule_certificate::Planner;
 use std::alloc::{AllocError, Global};
 use switch_settings::{PairList, WIDE_CHANGE_BYTES, bytes_for, is_wide, numbers_of_setting};

@@ -1,5 +1,6 @@
 -- What is recorded of the books that sessions leave is replayed to what these have.
-use Rattle.std.proofs.Common.{◌≡◌, ◌⊎◌, ℕ, zero, suc, ◌+◌, ◌-◌, ◌<◌, ◌≤◌, List, [], ◌∷◌, ◌++◌, append_assoc, append-nil, length, get_or, map, All, Bool, false, Option, None, Some, refl, sym, ap, ◌∙◌, subst, arith, inl, inr}
+use Rattle.std.proofs.Common.{◌≡◌, ◌⊎◌, ℕ, zero, suc, ◌+◌, ◌-◌, ◌<◌, ◌≤◌, List, [], ◌∷◌, ◌++◌, append_assoc, append-nil, length, get_or, map, All, Bool, false, Option, None, Some, refl, sym, ap, ◌∙◌}
+use Rattle.std.proofs.Common.{subst, arith, inl, inr}
 use Rattle.std.specs.Prelude.{unwrap_or}
 use Rattle.std.specs.List.{AllByRecursion, range_with_len, sum_by}
 use Rattle.std.proofs.lemmas.List.{append_cancel_left}
@@ -54,7 +55,8 @@ its_shape extent None rack words = ap (λ (s : Store). s.shape) words
 its_shape extent (Some bytes) rack words = words.same_shape
 
 -- the shape text that is given, or else that of the record's head
-shape_is : (given : Option (List ℕ)) (shape : List ℕ) (image : Option (List ℕ)) (opening : Store) (names : List (List ℕ)) (file body : List ℕ) → IsGivenShape given shape → IsRackOf shape image opening → AreNames names (length names)
+shape_is : (given : Option (List ℕ)) (shape : List ℕ) (image : Option (List ℕ)) (opening : Store) (names : List (List ℕ)) (file body : List ℕ)
+    → IsGivenShape given shape → IsRackOf shape image opening → AreNames names (length names)
     → file ≡ head_of opening.shape (adler (image_of opening)) names ++ body → IsShapeOf given file shape
 shape_is (Some text) shape image opening names file body same rack are head = sym same
 shape_is None shape image opening names file body same rack are head = (
@@ -80,7 +82,8 @@ abbrev OfLines : List Part → Type 0
 OfLines parts = AllByRecursion (λ p. AreOfLines p.asked) parts
 
 -- they have as many entries as the history has of their sessions
-own_total : (es : List Entry) (parts : List Part) → AllByRecursion (λ p. p.asked ≡ own p.session es) parts → sum_by (λ s. length (own s es)) (map session_of parts) ≡ sum_by (λ p. length p.asked) parts
+own_total : (es : List Entry) (parts : List Part) → AllByRecursion (λ p. p.asked ≡ own p.session es) parts
+    → sum_by (λ s. length (own s es)) (map session_of parts) ≡ sum_by (λ p. length p.asked) parts
 own_total es [] are = refl
 own_total es (p ∷ parts) are =
     sum_by-cons (λ (s : ℕ). length (own s es)) p.session (map session_of parts)
@@ -88,7 +91,8 @@ own_total es (p ∷ parts) are =
     ∙ ap (λ (k : ℕ). length p.asked + k) (own_total es parts are.1)
     ∙ sym (sum_by-cons (λ (q : Part). length q.asked) p parts)
 
-own_lines : (es : List Entry) (parts : List Part) → AllByRecursion (λ p. p.asked ≡ own p.session es) parts → OfLines parts → AllByRecursion (λ s. AreOfLines (own s es)) (map session_of parts)
+own_lines : (es : List Entry) (parts : List Part) → AllByRecursion (λ p. p.asked ≡ own p.session es) parts → OfLines parts
+    → AllByRecursion (λ s. AreOfLines (own s es)) (map session_of parts)
 own_lines es [] are say = tt
 own_lines es (p ∷ parts) are say = (subst AreOfLines are.0 say.0, own_lines es parts are.1 say.1)
 
@@ -98,39 +102,51 @@ in_range Q n s all less =
     subst Q at (All-from_recursion Q (range_with_len 0 n) all s 0 (omega (arith, less, length-range_with_len 0 n)))
 
 -- all entries are those of sessions that are numbered from 0
-parts_total : (es : List Entry) (parts : List Part) (n : ℕ) → HasAllEntries parts es → AreParts parts es → map session_of parts ≡ range_with_len 0 n → sum_by (λ s. length (own s es)) (range_with_len 0 n) ≡ length es
+parts_total : (es : List Entry) (parts : List Part) (n : ℕ) → HasAllEntries parts es → AreParts parts es → map session_of parts ≡ range_with_len 0 n
+    → sum_by (λ s. length (own s es)) (range_with_len 0 n) ≡ length es
 parts_total es parts n counted have numbers =
-    subst (λ (ns : List ℕ). sum_by (λ s. length (own s es)) ns ≡ length es) numbers (own_total es parts (recursion_from_All (λ p. p.asked ≡ own p.session es) parts have) ∙ sym counted)
+    subst (λ (ns : List ℕ). sum_by (λ s. length (own s es)) ns ≡ length es) numbers
+    (own_total es parts (recursion_from_All (λ p. p.asked ≡ own p.session es) parts have) ∙ sym counted)
 
 each_below : (n limit : ℕ) (es : List Entry) → n ≤ limit → AllByRecursion (λ e. e.session < n) es → All (IsBelow limit) es
-each_below n limit es few each = All-weaker (λ e. e.session < n) (IsBelow limit) (λ e less. omega (arith, less, few)) es (All-from_recursion (λ e. e.session < n) es each)
+each_below n limit es few each = All-weaker (λ e. e.session < n) (IsBelow limit) (λ e less. omega (arith, less, few)) es
+    (All-from_recursion (λ e. e.session < n) es each)
 
 -- a record can tell what such sessions asked, after other entries
-parts_told : SessionsAreTold → (opening : Store) (earlier es : List Entry) (mid end : Machine) (parts : List Part) (n : ℕ) → IsReplay (opened opening) earlier mid → IsReplay mid es end → HasAllEntries parts es → AreParts parts es → AreUnstopped es
+parts_told : SessionsAreTold → (opening : Store) (earlier es : List Entry) (mid end : Machine) (parts : List Part) (n : ℕ)
+    → IsReplay (opened opening) earlier mid → IsReplay mid es end → HasAllEntries parts es → AreParts parts es → AreUnstopped es
     → map session_of parts ≡ range_with_len 0 n → n ≤ 1000000000 → OfLines parts → All CanTell es
 parts_told tell opening earlier es mid end parts n before legal counted have unstopped numbers few say =
     let are = recursion_from_All (λ p. p.asked ≡ own p.session es) parts have in
-    let lines : AllByRecursion (λ s. AreOfLines (own s es)) (range_with_len 0 n) = subst (AllByRecursion (λ s. AreOfLines (own s es))) numbers (own_lines es parts are say) in
-    tell opening earlier es mid end n before legal (parts_total es parts n counted have numbers) (omega (arith, few)) (λ s less. in_range (λ s. AreOfLines (own s es)) n s lines less) unstopped
+    let lines : AllByRecursion (λ s. AreOfLines (own s es)) (range_with_len 0 n) = subst (AllByRecursion (λ s. AreOfLines (own s es))) numbers
+    (own_lines es parts are say) in
+    tell opening earlier es mid end n before legal (parts_total es parts n counted have numbers) (omega (arith, few))
+    (λ s less. in_range (λ s. AreOfLines (own s es)) n s lines less) unstopped
 
 -- ---- the whole history
 
 -- a record can tell it
-all_told : SessionsAreTold → (loses : Bool) (opening : Store) (earlier : List Entry) (parts : List Part) (left : BookView) (n : ℕ) → HaveOneHistory loses opening earlier parts left → All CanTell earlier → map session_of parts ≡ range_with_len 0 n → n ≤ 1000000000 → OfLines parts → All CanTell left.history
+all_told : SessionsAreTold → (loses : Bool) (opening : Store) (earlier : List Entry) (parts : List Part) (left : BookView) (n : ℕ)
+    → HaveOneHistory loses opening earlier parts left → All CanTell earlier → map session_of parts ≡ range_with_len 0 n → n ≤ 1000000000 → OfLines parts
+    → All CanTell left.history
 all_told tell loses opening earlier parts left n one before numbers few say =
-    let legal = replay_split (opened opening) earlier one.made left.machine (subst (λ (l : List Entry). IsReplay (opened opening) l left.machine) one.are one.replay) in
+    let legal = replay_split (opened opening) earlier one.made left.machine (subst (λ (l : List Entry). IsReplay (opened opening) l left.machine) one.are
+    one.replay) in
     let unstopped = (both_parts (λ e. IsUnstopped e.reply) earlier one.made (subst AreUnstopped one.are one.unstopped)).1 in
     let made = parts_told tell opening earlier one.made legal.0 left.machine parts n legal.1 legal.2 one.counted one.are_parts unstopped numbers few say in
     subst (All CanTell) (sym one.are) (All-append CanTell earlier one.made before made)
 
 -- it is by sessions below this
-all_below : (limit : ℕ) (loses : Bool) (opening : Store) (earlier : List Entry) (parts : List Part) (left : BookView) (n : ℕ) → HaveOneHistory loses opening earlier parts left → All (IsBelow limit) earlier → map session_of parts ≡ range_with_len 0 n → n ≤ limit → All (IsBelow limit) left.history
+all_below : (limit : ℕ) (loses : Bool) (opening : Store) (earlier : List Entry) (parts : List Part) (left : BookView) (n : ℕ)
+    → HaveOneHistory loses opening earlier parts left → All (IsBelow limit) earlier → map session_of parts ≡ range_with_len 0 n → n ≤ limit
+    → All (IsBelow limit) left.history
 all_below limit loses opening earlier parts left n one before numbers few =
     let made = each_below n limit one.made few (no_others one.made n (parts_total one.made parts n one.counted one.are_parts numbers)) in
     subst (All (IsBelow limit)) (sym one.are) (All-append (IsBelow limit) earlier one.made before made)
 
 -- its machine, from the words with which the book was opened
-all_led : (loses : Bool) (opening : Store) (earlier : List Entry) (parts : List Part) (left : BookView) → HaveOneHistory loses opening earlier parts left → IsReplay (opened left.opening) left.history left.machine
+all_led : (loses : Bool) (opening : Store) (earlier : List Entry) (parts : List Part) (left : BookView) → HaveOneHistory loses opening earlier parts left
+    → IsReplay (opened left.opening) left.history left.machine
 all_led loses opening earlier parts left one = subst (λ (s : Store). IsReplay (opened s) left.history left.machine) (sym one.is_opening) one.replay
 
 -- ---- what stands after the head
@@ -153,14 +169,16 @@ line_ends n line [] is = inl (sym (append-nil line) ∙ sym is)
 line_ends n line (b ∷ missing) is = inr (end_is_no_entry.0 n line (b ∷ missing) is (λ e. absurd cc))
 
 -- these entries are made again, and there their text ends
-made_again : (limit : ℕ) (opening : Store) (es : List Entry) (end : Machine) (rest : List ℕ) → All CanTell es → All (IsBelow limit) es → IsReplay (opened opening) es end → Ends (length es) rest → IsRemade limit (texts 0 es ++ rest) opening None es end rest
+made_again : (limit : ℕ) (opening : Store) (es : List Entry) (end : Machine) (rest : List ℕ) → All CanTell es → All (IsBelow limit) es
+    → IsReplay (opened opening) es end → Ends (length es) rest → IsRemade limit (texts 0 es ++ rest) opening None es end rest
 made_again limit opening es end rest can below legal ends = record {
   replayed = record { front = refl; each = can; sessions = below; replay = legal };
   ends = inr (tt, ends);
 }
 
 -- the text of the entries that stand, and a front of that of the others
-cut_made : (limit : ℕ) (names : List (List ℕ)) (book : BookView) (file : List ℕ) (waiting : List Entry) (rest missing : List ℕ) → book.history ≡ book.durable ++ waiting → All CanTell book.history → All (IsBelow limit) book.history → IsReplay (opened book.opening) book.history book.machine
+cut_made : (limit : ℕ) (names : List (List ℕ)) (book : BookView) (file : List ℕ) (waiting : List Entry) (rest missing : List ℕ) → book.history ≡ book.durable
+    ++ waiting → All CanTell book.history → All (IsBelow limit) book.history → IsReplay (opened book.opening) book.history book.machine
     → file ≡ record_of names book.opening book.durable ++ rest → texts (length book.durable) waiting ≡ rest ++ missing → Made limit names book file
 cut_made limit names book file waiting rest missing are can below legal has cut =
     let head = head_of book.opening.shape (adler (image_of book.opening)) names in
@@ -169,9 +187,11 @@ cut_made limit names book file waiting rest missing are can below legal has cut 
     let c = each_front (length book.durable) waiting rest missing parts.1 cut in
     let front = book.durable ++ c.whole in
     let all : book.history ≡ front ++ c.more = are ∙ ap (λ (l : List Entry). book.durable ++ l) c.are ∙ sym (append_assoc book.durable c.whole c.more) in
-    let part = replay_split (opened book.opening) front c.more book.machine (subst (λ (l : List Entry). IsReplay (opened book.opening) l book.machine) all legal) in
+    let part = replay_split (opened book.opening) front c.more book.machine (subst (λ (l : List Entry). IsReplay (opened book.opening) l book.machine) all
+    legal) in
     let text : durable ++ rest ≡ texts 0 front ++ c.rest =
-    ap (λ (l : List ℕ). durable ++ l) c.read ∙ sym (append_assoc durable (texts (length book.durable) c.whole) c.rest) ∙ ap (λ (l : List ℕ). l ++ c.rest) (sym (texts_both book.durable c.whole)) in
+    ap (λ (l : List ℕ). durable ++ l) c.read ∙ sym (append_assoc durable (texts (length book.durable) c.whole) c.rest)
+    ∙ ap (λ (l : List ℕ). l ++ c.rest) (sym (texts_both book.durable c.whole)) in
     record {
       body = texts 0 front ++ c.rest;
       is = has ∙ append_assoc head durable rest ∙ ap (λ (l : List ℕ). head ++ l) text;
@@ -186,7 +206,8 @@ cut_made limit names book file waiting rest missing are can below legal has cut 
     }
 
 -- the text of all entries, and a front of the last lines
-ended_made : (limit : ℕ) (names : List (List ℕ)) (book : BookView) (file line missing : List ℕ) → IsPrefix book.durable book.history → All CanTell book.history → All (IsBelow limit) book.history → IsReplay (opened book.opening) book.history book.machine
+ended_made : (limit : ℕ) (names : List (List ℕ)) (book : BookView) (file line missing : List ℕ) → IsPrefix book.durable book.history → All CanTell book.history
+    → All (IsBelow limit) book.history → IsReplay (opened book.opening) book.history book.machine
     → file ≡ record_of names book.opening book.history ++ line → last_lines (length book.history) ≡ line ++ missing → Made limit names book file
 ended_made limit names book file line missing stand can below legal has cut =
     record {
@@ -200,18 +221,22 @@ ended_made limit names book file line missing stand can below legal has cut =
       remade = made_again limit book.opening book.history book.machine line can below legal (line_ends (length book.history) line missing cut);
     }
 
-file_made : (limit : ℕ) (names : List (List ℕ)) (book : BookView) (file : List ℕ) → IsPrefix book.durable book.history → IsRecorded names book file → All CanTell book.history → All (IsBelow limit) book.history → IsReplay (opened book.opening) book.history book.machine → Made limit names book file
+file_made : (limit : ℕ) (names : List (List ℕ)) (book : BookView) (file : List ℕ) → IsPrefix book.durable book.history → IsRecorded names book file
+    → All CanTell book.history → All (IsBelow limit) book.history → IsReplay (opened book.opening) book.history book.machine → Made limit names book file
 file_made limit names book file stand r can below legal =
     let more = front book.durable book.history stand in
     let durable = record_of names book.opening book.durable in
     let waiting = texts (length book.durable) more.0 in
     let last = last_lines (length book.history) in
-    let all : record_of names book.opening book.history ≡ durable ++ waiting = ap (record_of names book.opening) more.1 ∙ record_append names book.opening book.durable more.0 in
+    let all : record_of names book.opening book.history ≡ durable ++ waiting = ap (record_of names book.opening) more.1
+    ∙ record_append names book.opening book.durable more.0 in
     let behind : waiting ++ last ≡ r.rest ++ r.missing =
     append_cancel_left durable (waiting ++ last) (r.rest ++ r.missing)
-    (sym (append_assoc durable waiting last) ∙ ap (λ (l : List ℕ). l ++ last) (sym all) ∙ r.cut ∙ ap (λ (l : List ℕ). l ++ r.missing) r.has ∙ append_assoc durable r.rest r.missing) in
+    (sym (append_assoc durable waiting last) ∙ ap (λ (l : List ℕ). l ++ last) (sym all) ∙ r.cut ∙ ap (λ (l : List ℕ). l ++ r.missing) r.has
+    ∙ append_assoc durable r.rest r.missing) in
     elim (split waiting last r.rest r.missing behind) [
-      | inl ended ↦ ended_made limit names book file ended.0 r.missing stand can below legal (r.has ∙ ap (λ (l : List ℕ). durable ++ l) ended.1 ∙ sym (append_assoc durable waiting ended.0) ∙ ap (λ (l : List ℕ). l ++ ended.0) (sym all)) ended.2
+      | inl ended ↦ ended_made limit names book file ended.0 r.missing stand can below legal (r.has ∙ ap (λ (l : List ℕ). durable ++ l) ended.1
+          ∙ sym (append_assoc durable waiting ended.0) ∙ ap (λ (l : List ℕ). l ++ ended.0) (sym all)) ended.2
       | inr cut ↦ cut_made limit names book file more.0 r.rest cut.0 more.1 can below legal r.has cut.2
     ]
 
@@ -226,8 +251,10 @@ all_wanted : (n : ℕ) (E : Type 0) → (None ≡ Some n) ⊎ (AreFewer n None �
 all_wanted n E (inl never) = absurd cc
 all_wanted n E (inr ends) = ends.1
 
-replayed_to : (shape : List ℕ) (image : Option (List ℕ)) (opening : Store) (names : List (List ℕ)) (file body : List ℕ) (es : List Entry) (end : Machine) (rest : List ℕ) → IsRackOf shape image opening → AreNames names (length names)
-    → file ≡ head_of opening.shape (adler (image_of opening)) names ++ body → IsRemade (session_limit (length names)) body opening None es end rest → IsReplayedTo shape image opening es file
+replayed_to : (shape : List ℕ) (image : Option (List ℕ)) (opening : Store) (names : List (List ℕ)) (file body : List ℕ) (es : List Entry) (end : Machine)
+    (rest : List ℕ) → IsRackOf shape image opening → AreNames names (length names)
+    → file ≡ head_of opening.shape (adler (image_of opening)) names ++ body → IsRemade (session_limit (length names)) body opening None es end rest
+    → IsReplayedTo shape image opening es file
 replayed_to shape image opening names file body es end rest rack are is remade =
     let torn = torn_where file (length es) rest (all_wanted (length es) (Ends (length es) rest) remade.ends) in
     record {
@@ -237,7 +264,8 @@ replayed_to shape image opening names file body es end rest rack are is remade =
       answered = λ given same. (
         None,
         torn.0,
-        replayed shape body opening (session_limit (length names)) (shape_is given shape image opening names file body same rack are is) rack (record { names = names; are = are; limited = refl; head = is })
+        replayed shape body opening (session_limit (length names)) (shape_is given shape image opening names file body same rack are is) rack
+            (record { names = names; are = are; limited = refl; head = is })
             (led es end rest remade refl refl refl torn.1),
       );
     }
@@ -247,8 +275,10 @@ limit_digits : (clients : ℕ) → clients ≤ MAX_SESSIONS → session_limit cl
 limit_digits zero few = omega arith
 limit_digits (suc clients) few = omega (arith, few)
 
-closing_replayed : SessionsAreTold → (shape : List ℕ) (image : Option (List ℕ)) (loses : Bool) (was left : BookView) (parts : List Part) (text : List ℕ) (failed : Bool) (printed : Printed) (names : List (List ℕ)) (file : List ℕ) (n : ℕ) → IsRackOf shape image was.opening → AreNames names (length names)
-    → CanGoOn (length names) was → IsClosing loses was.opening was.history parts text failed printed left → IsRecorded names left file → map session_of parts ≡ range_with_len 0 n → n ≤ session_limit (length names) → OfLines parts → IsReplayedInPart shape image left file
+closing_replayed : SessionsAreTold → (shape : List ℕ) (image : Option (List ℕ)) (loses : Bool) (was left : BookView) (parts : List Part) (text : List ℕ)
+    (failed : Bool) (printed : Printed) (names : List (List ℕ)) (file : List ℕ) (n : ℕ) → IsRackOf shape image was.opening → AreNames names (length names)
+    → CanGoOn (length names) was → IsClosing loses was.opening was.history parts text failed printed left → IsRecorded names left file → map session_of parts
+    ≡ range_with_len 0 n → n ≤ session_limit (length names) → OfLines parts → IsReplayedInPart shape image left file
 closing_replayed tell shape image loses was left parts text failed printed names file n rack names_are on closed r numbers few say =
     let one = closed.one in
     let limit = session_limit (length names) in
@@ -260,7 +290,8 @@ closing_replayed tell shape image loses was left parts text failed printed names
       front = made.front;
       has_told = made.has;
       first = made.first;
-      replayed = replayed_to shape image left.opening names file made.body made.front made.end made.rest (subst (IsRackOf shape image) (sym one.is_opening) rack) names_are made.is made.remade;
+      replayed = replayed_to shape image left.opening names file made.body made.front made.end made.rest
+          (subst (IsRackOf shape image) (sym one.is_opening) rack) names_are made.is made.remade;
     }
 
 no_names : AreNames [] 0
@@ -271,15 +302,19 @@ any_session : (es : List Entry) → All CanTell es → All (IsBelow (session_lim
 any_session es each = All-weaker CanTell (IsBelow (session_limit 0)) (λ e can. can.session) es each
 
 -- the same where entries are never lost, and the whole record is written at the end
-kept_replayed : SessionsAreTold → (shape : List ℕ) (image : Option (List ℕ)) (opening : Store) (parts : List Part) (text : List ℕ) (failed : Bool) (printed : Printed) (left : BookView) (n : ℕ) → IsRackOf shape image opening
-    → IsClosing false opening [] parts text failed printed left → map session_of parts ≡ range_with_len 0 n → n ≤ 1000000000 → OfLines parts → IsReplayedTo shape image left.opening left.history (whole_record [] left.opening left.history)
+kept_replayed : SessionsAreTold → (shape : List ℕ) (image : Option (List ℕ)) (opening : Store) (parts : List Part) (text : List ℕ) (failed : Bool)
+    (printed : Printed) (left : BookView) (n : ℕ) → IsRackOf shape image opening
+    → IsClosing false opening [] parts text failed printed left → map session_of parts ≡ range_with_len 0 n → n ≤ 1000000000 → OfLines parts
+    → IsReplayedTo shape image left.opening left.history (whole_record [] left.opening left.history)
 kept_replayed tell shape image opening parts text failed printed left n rack closed numbers few say =
     let one = closed.one in
     let can = all_told tell false opening [] parts left n one (All-nil CanTell) numbers few say in
     let last = last_lines (length left.history) in
     let head = head_of left.opening.shape (adler (image_of left.opening)) [] in
-    replayed_to shape image left.opening [] (whole_record [] left.opening left.history) (texts 0 left.history ++ last) left.history left.machine last (subst (IsRackOf shape image) (sym one.is_opening) rack) no_names (append_assoc head (texts 0 left.history) last)
-    (made_again (session_limit 0) left.opening left.history left.machine last can (any_session left.history can) (all_led false opening [] parts left one) (inl refl))
+    replayed_to shape image left.opening [] (whole_record [] left.opening left.history) (texts 0 left.history ++ last) left.history left.machine last
+    (subst (IsRackOf shape image) (sym one.is_opening) rack) no_names (append_assoc head (texts 0 left.history) last)
+    (made_again (session_limit 0) left.opening left.history left.machine last can (any_session left.history can) (all_led false opening [] parts left one)
+    (inl refl))
 
 -- ---- sessions
 
@@ -287,12 +322,15 @@ kept_replayed tell shape image opening parts text failed printed left n rack clo
 begins_with_shape : (clients : ℕ) (was : BookView) (loses : Bool) → CanGoOn clients was → IsShape was.opening.shape → IsShape (beginning loses was).shape
 begins_with_shape clients was loses on allowed = subst IsShape (sym (shape_stays (opened was.opening) was.history was.machine on.led)) allowed
 
-served_say : SessionsSay → (b : Beginning) (before after : Option (List ℕ)) (t : Transcript) → IsShape b.shape → IsServedSession b before after t → AreOfLines t.part.asked
+served_say : SessionsSay → (b : Beginning) (before after : Option (List ℕ)) (t : Transcript) → IsShape b.shape → IsServedSession b before after t
+    → AreOfLines t.part.asked
 served_say law b before after t valid is = law t.fault after is.seat _ is.read t.part.asked t.told (subst IsShape (sym is.is_new.shape_is) valid) is.ended
 
-scripts_say : SessionsSay → (b : Beginning) (scripts : List (List ℕ)) (sessions : List Transcript) → IsShape b.shape → AllByRecursion (HasItsScript b scripts) sessions → OfLines (map (λ t. t.part) sessions)
+scripts_say : SessionsSay → (b : Beginning) (scripts : List (List ℕ)) (sessions : List Transcript) → IsShape b.shape → AllByRecursion (HasItsScript b scripts)
+    sessions → OfLines (map (λ t. t.part) sessions)
 scripts_say law b scripts [] valid each = tt
-scripts_say law b scripts (t ∷ sessions) valid each = (served_say law b (Some each.0.0) (Some each.0.1) t valid each.0.3, scripts_say law b scripts sessions valid each.1)
+scripts_say law b scripts (t ∷ sessions) valid each =
+    (served_say law b (Some each.0.0) (Some each.0.1) t valid each.0.3, scripts_say law b scripts sessions valid each.1)
 
 one_book : (a b : BookView) → Some a ≡ Some b → b ≡ a
 one_book a b is = sym (ap (λ (o : Option BookView). unwrap_or o a) is)
@@ -304,18 +342,22 @@ serve_is_replayed law tell shape image scripts printed book (served opening rack
     let begun = beginning false (new_book_view opening) in
     let left = all.2 in
     subst (λ (a : BookView). IsReplayedTo shape image a.opening a.history (whole_record [] a.opening a.history)) (one_book book left all.3)
-    (kept_replayed tell shape image opening parts _ _ printed left (length scripts) rack all.5 (map-map session_of (λ (t : Transcript). t.part) sessions ∙ all.1.numbers) (omega (arith, few))
+    (kept_replayed tell shape image opening parts _ _ printed left (length scripts) rack all.5 (map-map session_of (λ (t : Transcript). t.part) sessions
+    ∙ all.1.numbers) (omega (arith, few))
     (scripts_say law begun scripts sessions (rack_blocks shape image opening rack).0 (recursion_from_All (HasItsScript begun scripts) sessions all.1.each)))
 serve_is_replayed law tell shape image scripts printed book (refused _ _ _ is) few = absurd cc
 
 none_say : AreOfLines []
 none_say = record { calls = All-from_recursion (λ e. CanSay (told e.call)) [] tt; settle = tt }
 
-hosted_say : SessionsSay → (b : Beginning) (g : KnownClients) (part : Part) (end : SessionEnd) → IsShape b.shape → IsHostedSession b g part end → AreOfLines part.asked
+hosted_say : SessionsSay → (b : Beginning) (g : KnownClients) (part : Part) (end : SessionEnd) → IsShape b.shape → IsHostedSession b g part end
+    → AreOfLines part.asked
 hosted_say law b g part Unopened valid is = subst AreOfLines (sym is.asked) none_say
-hosted_say law b g part (Served fault closed) valid is = served_say law b (g.says part.session) is.rest (record { part = part; told = is.told; fault = fault }) valid is.session
+hosted_say law b g part (Served fault closed) valid is = served_say law b (g.says part.session) is.rest (record { part = part; told = is.told; fault = fault })
+    valid is.session
 
-hosts_say : SessionsSay → (b : Beginning) (g : KnownClients) (sessions : List HostedSession) → IsShape b.shape → AllByRecursion (λ v. IsHostedSession b g v.part v.end) sessions → OfLines (map (λ v. v.part) sessions)
+hosts_say : SessionsSay → (b : Beginning) (g : KnownClients) (sessions : List HostedSession) → IsShape b.shape
+    → AllByRecursion (λ v. IsHostedSession b g v.part v.end) sessions → OfLines (map (λ v. v.part) sessions)
 hosts_say law b g [] valid each = tt
 hosts_say law b g (v ∷ sessions) valid each = (hosted_say law b g v.part v.end valid each.0, hosts_say law b g sessions valid each.1)
 
@@ -323,8 +365,10 @@ pub host_is_replayed : SessionsSay → SessionsAreTold → HostIsReplayed
 host_is_replayed law tell shape image loses was left g ends printed names file rack are on all few r =
     let sessions = all.0 in
     let begun = beginning loses was in
-    closing_replayed tell shape image loses was left (map (λ (v : HostedSession). v.part) sessions) _ _ printed names file g.clients rack are on all.3 r (map-map session_of (λ (v : HostedSession). v.part) sessions ∙ all.2.numbers) few
-    (hosts_say law begun g sessions (begins_with_shape (length names) was loses on (rack_blocks shape image was.opening rack).0) (recursion_from_All (λ v. IsHostedSession begun g v.part v.end) sessions all.2.each))
+    closing_replayed tell shape image loses was left (map (λ (v : HostedSession). v.part) sessions) _ _ printed names file g.clients rack are on all.3 r
+    (map-map session_of (λ (v : HostedSession). v.part) sessions ∙ all.2.numbers) few
+    (hosts_say law begun g sessions (begins_with_shape (length names) was loses on (rack_blocks shape image was.opening rack).0)
+    (recursion_from_All (λ v. IsHostedSession begun g v.part v.end) sessions all.2.each))
 
 -- one session always has a number
 one_fits : (clients : ℕ) → 1 ≤ session_limit clients
@@ -335,5 +379,6 @@ pub talk_is_replayed : SessionsSay → SessionsAreTold → TalkIsReplayed
 talk_is_replayed law tell shape image loses was left before after told printed names file rack are on all r =
     let t = all.0 in
     let begun = beginning loses was in
-    closing_replayed tell shape image loses was left (t.part ∷ []) _ _ printed names file 1 rack are on all.4 r (ap (λ (s : ℕ). s ∷ []) all.1) (one_fits (length names))
+    closing_replayed tell shape image loses was left (t.part ∷ []) _ _ printed names file 1 rack are on all.4 r (ap (λ (s : ℕ). s ∷ []) all.1)
+    (one_fits (length names))
     (served_say law begun before after t (begins_with_shape (length names) was loses on (rack_blocks shape image was.opening rack).0) all.3, tt)

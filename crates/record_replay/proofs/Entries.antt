@@ -36,7 +36,8 @@ settle_at_no_stranger : (m : Machine) (id : ℕ) (plan : Plan) (s : BatchStage) 
 settle_at_no_stranger m id plan stage.Waiting e = absurd cc
 settle_at_no_stranger m id plan s e = absurd cc
 
-settle_if_no_stranger : (m : Machine) (id : ℕ) (plan : Plan) (h : StoredBatch) (b : Bool) → same_transfers h.batch plan.batch ≡ b → plan.batch ≡ h.batch → (if b then settle_at m id plan h.stage else refuse m Stranger).0 ≡ Refused Stranger → ⊥
+settle_if_no_stranger : (m : Machine) (id : ℕ) (plan : Plan) (h : StoredBatch) (b : Bool) → same_transfers h.batch plan.batch ≡ b → plan.batch ≡ h.batch
+    → (if b then settle_at m id plan h.stage else refuse m Stranger).0 ≡ Refused Stranger → ⊥
 settle_if_no_stranger m id plan h true same own e = settle_at_no_stranger m id plan h.stage e
 settle_if_no_stranger m id plan h false same own e = false≢true (sym same ∙ (same_transfers-Decides h.batch plan.batch).1 (sym own))
 
@@ -44,14 +45,16 @@ settle_no_stranger : (m : Machine) (id : ℕ) (plan : Plan) (o : Option StoredBa
 settle_no_stranger m id plan None own e = absurd cc
 settle_no_stranger m id plan (Some h) own e = settle_if_no_stranger m id plan h (same_transfers h.batch plan.batch) refl own e
 
-pub no_stranger : (m : Machine) (session : ℕ) (c : Call) (n : Machine) → HasOwnPlanIn m session c → IsReplyTo c (Refused Stranger) → IsMachineStep m session c (Refused Stranger) n → ⊥
+pub no_stranger : (m : Machine) (session : ℕ) (c : Call) (n : Machine) → HasOwnPlanIn m session c → IsReplyTo c (Refused Stranger)
+    → IsMachineStep m session c (Refused Stranger) n → ⊥
 no_stranger m session (Settle id plan) n own answers step = settle_no_stranger m id plan (batch_of m session id) own (sym step.1.0)
 no_stranger m session c n own answers step = answers
 
 -- ---- what was made again
 
 -- the lines are those of the entry that comes
-pub came_as : (limit : ℕ) (old new : BookView) (body replied : List ℕ) (session : ℕ) (tc : PlanlessCall) (c : Call) (r : Reply) → told c ≡ tc → IsNumber session → session < limit → CanSay tc → CanBeReplied r → IsGrown old session c r new
+pub came_as : (limit : ℕ) (old new : BookView) (body replied : List ℕ) (session : ℕ) (tc : PlanlessCall) (c : Call) (r : Reply) → told c ≡ tc → IsNumber session
+    → session < limit → CanSay tc → CanBeReplied r → IsGrown old session c r new
     → body ≡ number session space ++ (call_text tc ++ replied) → replied ≡ reply_text (id_of tc) r → GoesOnBy limit old new body
 came_as limit old new body replied session tc c r is fits below can may grown asks answers = record {
   entry = entry session c r;
@@ -72,20 +75,23 @@ pub record Going (limit : ℕ) (text : List ℕ) (opening : Store) (k : ℕ) (bo
   pub sessions : All (λ e. e.session < limit) book.history
   pub front : text ≡ texts 0 book.history ++ rest
 
-pub going_on : (limit : ℕ) (text : List ℕ) (opening : Store) (k : ℕ) (old new : BookView) (rest body after : List ℕ) → Going limit text opening k old rest → IsSummed k rest body after → GoesOnBy limit old new body → new.opening ≡ old.opening → Going limit text opening (k + 1) new after
+pub going_on : (limit : ℕ) (text : List ℕ) (opening : Store) (k : ℕ) (old new : BookView) (rest body after : List ℕ) → Going limit text opening k old rest
+    → IsSummed k rest body after → GoesOnBy limit old new body → new.opening ≡ old.opening → Going limit text opening (k + 1) new after
 going_on limit text opening k old new rest body after had summed_so by is =
     let e = by.entry in
     let f = by.grown.history in
     let here : rest ≡ entry_text k e ++ after = summed_so.front ∙ ap (λ (b : List ℕ). summed k b ++ after) by.body_is in
     let count : 0 + length old.history ≡ k = omega (arith, had.counted) in
     let more : texts 0 new.history ≡ texts 0 old.history ++ entry_text k e =
-    ap (texts 0) f ∙ texts_append 0 old.history (e ∷ []) ∙ ap (λ (n : ℕ). texts 0 old.history ++ texts n (e ∷ [])) count ∙ ap (λ (l : List ℕ). texts 0 old.history ++ l) (append-nil (entry_text k e)) in
+    ap (texts 0) f ∙ texts_append 0 old.history (e ∷ []) ∙ ap (λ (n : ℕ). texts 0 old.history ++ texts n (e ∷ [])) count
+    ∙ ap (λ (l : List ℕ). texts 0 old.history ++ l) (append-nil (entry_text k e)) in
     record {
       opened_so = is ∙ had.opened_so;
       counted = ap length f ∙ length-append old.history (e ∷ []) ∙ omega (arith, had.counted);
       each = subst (All CanTell) (sym f) (All-push CanTell old.history e had.each by.can);
       sessions = subst (All (λ x. x.session < limit)) (sym f) (All-push (λ x. x.session < limit) old.history e had.sessions by.below);
-      front = had.front ∙ ap (λ (l : List ℕ). texts 0 old.history ++ l) here ∙ sym (append_assoc (texts 0 old.history) (entry_text k e) after) ∙ ap (λ (l : List ℕ). l ++ after) (sym more);
+      front = had.front ∙ ap (λ (l : List ℕ). texts 0 old.history ++ l) here ∙ sym (append_assoc (texts 0 old.history) (entry_text k e) after)
+          ∙ ap (λ (l : List ℕ). l ++ after) (sym more);
     }
 
 -- where the loop goes on, so many are fewer than are wanted
@@ -104,19 +110,25 @@ asked_form : (n c r s a : List ℕ) → ((n ++ (c ++ r)) ++ s) ++ a ≡ (n ++ c)
 asked_form n c r s a = simp append_assoc
 
 -- what is wrong stands within the text that goes on there
-wrong_within : (limit n : ℕ) (m : Machine) (last : List ℕ) (f : RecordFault) (rest : List ℕ) (due : Option (List ℕ)) → IsWrongAt limit n m last f rest due → (front : List ℕ) × (last ≡ front ++ rest)
+wrong_within : (limit n : ℕ) (m : Machine) (last : List ℕ) (f : RecordFault) (rest : List ℕ) (due : Option (List ℕ)) → IsWrongAt limit n m last f rest due
+    → (front : List ℕ) × (last ≡ front ++ rest)
 wrong_within limit n m last f rest due (damaged bad so at none) = ([], sym at)
 wrong_within limit n m last f rest due (no_call body more s none other so at no_due) = ([], sym at)
 wrong_within limit n m last f rest due (other_reply body more replied line s o so at due_is) =
     let session = number o.session space in
     let asked = call_text (told o.call) in
-    let tail = sum_line (sum_at n body) in
-    (session ++ asked, s.front ∙ ap (λ (b : List ℕ). (b ++ tail) ++ more) o.asks ∙ asked_form session asked replied tail more ∙ ap (λ (l : List ℕ). (session ++ asked) ++ l) (sym at))
+    let tail = sum_line (sum_at n body) in (
+      session ++ asked,
+      s.front ∙ ap (λ (b : List ℕ). (b ++ tail) ++ more) o.asks ∙ asked_form session asked replied tail more
+          ∙ ap (λ (l : List ℕ). (session ++ asked) ++ l) (sym at),
+    )
 wrong_within limit n m last f rest due (more_after is some so none) = (last_lines n, is)
 
 -- what is wrong after what was made again so far, as an error says it
-pub said_wrong : (limit : ℕ) (text : List ℕ) (opening : Store) (first : Option ℕ) (k wanted most : ℕ) (book : BookView) (last rest : List ℕ) (due : Option (List ℕ)) (error : RecordError) → Going limit text opening k book last → IsReplay (opened book.opening) book.history book.machine
-    → wanted ≡ unwrap_or first most → k < wanted → IsWrongAt limit k book.machine last error.fault rest due → error.offset ≡ length text - length rest → option_map (λ line. line.items) error.due ≡ due → IsRecordError limit text opening first error
+pub said_wrong : (limit : ℕ) (text : List ℕ) (opening : Store) (first : Option ℕ) (k wanted most : ℕ) (book : BookView) (last rest : List ℕ)
+    (due : Option (List ℕ)) (error : RecordError) → Going limit text opening k book last → IsReplay (opened book.opening) book.history book.machine
+    → wanted ≡ unwrap_or first most → k < wanted → IsWrongAt limit k book.machine last error.fault rest due → error.offset ≡ length text - length rest
+    → option_map (λ line. line.items) error.due ≡ due → IsRecordError limit text opening first error
 said_wrong limit text opening first k wanted most book last rest due error had led is less wrong at says =
     let within = wrong_within limit k book.machine last error.fault rest due wrong in
     let made = texts 0 book.history in
@@ -144,10 +156,24 @@ said_wrong limit text opening first k wanted most book last rest due error had l
     }
 
 -- where another line stands than that of a reply
-pub reply_at : (limit n offset : ℕ) (m : Machine) (text front last body after replied line : List ℕ) → text ≡ front ++ last → IsSummed n last body after → IsOtherReply limit m body replied line → offset ≡ length text - length last + (length body - length replied)
+pub reply_at : (limit n offset : ℕ) (m : Machine) (text front last body after replied line : List ℕ) → text ≡ front ++ last → IsSummed n last body after
+    → IsOtherReply limit m body replied line → offset ≡ length text - length last + (length body - length replied)
     → offset ≡ length text - length (replied ++ (sum_line (sum_at n body) ++ after))
 reply_at limit n offset m text front last body after replied line is s o at =
     let session = number o.session space in
     let asked = call_text (told o.call) in
     let tail = sum_line (sum_at n body) in
-    omega (arith, at, ap length is, ap length s.front, ap length o.asks, length-append front last, length-append (body ++ tail) after, length-append body tail, length-append session (asked ++ replied), length-append asked replied, length-append replied (tail ++ after), length-append tail after)
+    omega (
+      arith,
+      at,
+      ap length is,
+      ap length s.front,
+      ap length o.asks,
+      length-append front last,
+      length-append (body ++ tail) after,
+      length-append body tail,
+      length-append session (asked ++ replied),
+      length-append asked replied,
+      length-append replied (tail ++ after),
+      length-append tail after,
+    )

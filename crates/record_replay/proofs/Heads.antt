@@ -19,12 +19,15 @@ IsRead recorded e sum n body = IsShape e × IsWord sum × ((names : List (List �
 
 -- a record that begins with no head is none on any rack
 pub no_record : (opening : Store) (recorded : List ℕ) → IsShape opening.shape → BeginsWithNoHead recorded → IsNoRecordOn opening recorded
-no_record opening recorded shape none body limit on = none opening.shape (adler (image_of opening)) (length on.names) on.names body shape (sum_is_word (image_of opening)) on.are on.head
+no_record opening recorded shape none body limit on = none opening.shape (adler (image_of opening)) (length on.names) on.names body shape
+    (sum_is_word (image_of opening)) on.are on.head
 
 -- nor is one whose head says another shape or sum
-pub other_record : (opening : Store) (recorded body : List ℕ) (e : ShapeView) (sum n : ℕ) → IsShape opening.shape → IsRead recorded e sum n body → (e ≡ opening.shape → sum ≡ adler (image_of opening) → ⊥) → IsNoRecordOn opening recorded
+pub other_record : (opening : Store) (recorded body : List ℕ) (e : ShapeView) (sum n : ℕ) → IsShape opening.shape → IsRead recorded e sum n body
+    → (e ≡ opening.shape → sum ≡ adler (image_of opening) → ⊥) → IsNoRecordOn opening recorded
 other_record opening recorded body e sum n shape read other after limit on =
-    let one = one_head e opening.shape sum (adler (image_of opening)) read.2.0 on.names body after read.0 shape read.1 (sum_is_word (image_of opening)) (counted read.2.0 n read.2.1) on.are (sym read.2.2 ∙ on.head) in
+    let one = one_head e opening.shape sum (adler (image_of opening)) read.2.0 on.names body after read.0 shape read.1 (sum_is_word (image_of opening))
+    (counted read.2.0 n read.2.1) on.are (sym read.2.2 ∙ on.head) in
     other one.shape one.sum
 
 -- a shape is none but itself
@@ -44,10 +47,12 @@ spelled_so : (a b c : List ℕ) → a ++ (120 ∷ (b ++ (120 ∷ c))) ≡ (((a +
 spelled_so a b c = simp append_assoc
 
 -- three numbers are the text of their shape
-pub spelled : (e : ShapeView) (a b c : ℕ) (text : List ℕ) → text ≡ decimal a ++ (120 ∷ (decimal b ++ (120 ∷ decimal c))) → a ≡ e.modules → b ≡ e.blocks → c ≡ e.words → text ≡ shape_text e
+pub spelled : (e : ShapeView) (a b c : ℕ) (text : List ℕ) → text ≡ decimal a ++ (120 ∷ (decimal b ++ (120 ∷ decimal c))) → a ≡ e.modules → b ≡ e.blocks → c
+    ≡ e.words → text ≡ shape_text e
 spelled e a b c text is modules blocks words =
     is ∙ spelled_so (decimal a) (decimal b) (decimal c) ∙ ap (λ (n : ℕ). (((decimal n ++ 120 ∷ []) ++ decimal b) ++ 120 ∷ []) ++ decimal c) modules
-    ∙ ap (λ (n : ℕ). (((decimal e.modules ++ 120 ∷ []) ++ decimal n) ++ 120 ∷ []) ++ decimal c) blocks ∙ ap (λ (n : ℕ). (((decimal e.modules ++ 120 ∷ []) ++ decimal e.blocks) ++ 120 ∷ []) ++ decimal n) words
+    ∙ ap (λ (n : ℕ). (((decimal e.modules ++ 120 ∷ []) ++ decimal n) ++ 120 ∷ []) ++ decimal c) blocks
+    ∙ ap (λ (n : ℕ). (((decimal e.modules ++ 120 ∷ []) ++ decimal e.blocks) ++ 120 ∷ []) ++ decimal n) words
 
 abbrev has_head : (recorded body : List ℕ) (e : ShapeView) (sum n : ℕ) → IsRead recorded e sum n body → HasHead recorded
 has_head recorded body e sum n read = record {
@@ -62,10 +67,13 @@ has_head recorded body e sum n read = record {
 }
 
 -- the shape is that of the head, where none is given
-pub shape_of_head : (shape : Option (List ℕ)) (recorded body text : List ℕ) (e : ShapeView) (sum n : ℕ) → shape ≡ None → IsRead recorded e sum n body → text ≡ shape_text e → IsShapeOf shape recorded text
+pub shape_of_head : (shape : Option (List ℕ)) (recorded body text : List ℕ) (e : ShapeView) (sum n : ℕ) → shape ≡ None → IsRead recorded e sum n body → text
+    ≡ shape_text e → IsShapeOf shape recorded text
 shape_of_head shape recorded body text e sum n none read is =
     subst (λ (o : Option (List ℕ)). IsShapeOf o recorded text) (sym none) (has_head recorded body e sum n read, is)
 
 -- the first line that is due where a head stands
-pub line_due : (opening : Store) (recorded body line : List ℕ) (e : ShapeView) (sum n : ℕ) → IsRead recorded e sum n body → line ≡ rack_line opening.shape (adler (image_of opening)) n → IsHeadDue opening recorded (Some line)
-line_due opening recorded body line e sum n read is = (has_head recorded body e sum n read, is ∙ ap (rack_line opening.shape (adler (image_of opening))) (sym read.2.1.count))
+pub line_due : (opening : Store) (recorded body line : List ℕ) (e : ShapeView) (sum n : ℕ) → IsRead recorded e sum n body → line
+    ≡ rack_line opening.shape (adler (image_of opening)) n → IsHeadDue opening recorded (Some line)
+line_due opening recorded body line e sum n read is =
+    (has_head recorded body e sum n read, is ∙ ap (rack_line opening.shape (adler (image_of opening))) (sym read.2.1.count))

@@ -21,7 +21,8 @@ use Rattle.batch_book.specs.declared.reply.Reply.{Reply}
 use Rattle.batch_book.specs.declared.reply.Reply.TheVariants as reply
 use Rattle.batch_book.specs.declared.call.Call.{Call}
 use Rattle.batch_book.specs.declared.call.Call.TheVariants.{Submit, Fetch, Settle, Run, Show, Discard, Peek, Poke}
-use Rattle.batch_book.specs.Machine.{Machine, stored_batch, batch_of, staged, set_stage, Gives, accept, refuse, fetch, settle_at, settle, show, discard, peek_unless, poke_unless, IsRunOf, IsRunAt, IsRunStep, IsMachineStep}
+use Rattle.batch_book.specs.Machine.{Machine, stored_batch, batch_of, staged, set_stage, Gives, accept, refuse, fetch, settle_at, settle, show, discard, peek_unless, poke_unless, IsRunOf, IsRunAt}
+use Rattle.batch_book.specs.Machine.{IsRunStep, IsMachineStep}
 
 abbrev pub Batches : Type 0
 Batches = List (ℕ × StoredBatch)
@@ -41,16 +42,19 @@ removed : (P : ℕ → List Transfer → Type 0) (t : ℕ → Bool) (es : Batche
 removed P t [] all = tt
 removed P t (e ∷ es) all = by_test (Each P) es (e ∷ remove_entry t es) (t e.0) (λ _. all.1) (λ _. (all.0, removed P t es all.1))
 
-replaced : (P : ℕ → List Transfer → Type 0) (t : ℕ → Bool) (es : Batches) (h w : StoredBatch) → w.batch ≡ h.batch → lookup t es ≡ Some h → Each P es → Each P (set_value t es w)
+replaced : (P : ℕ → List Transfer → Type 0) (t : ℕ → Bool) (es : Batches) (h w : StoredBatch) → w.batch ≡ h.batch → lookup t es ≡ Some h → Each P es
+    → Each P (set_value t es w)
 replaced P t [] h w same is all = tt
 replaced P t (e ∷ es) h w same is all =
     by_test (Each P) ((e.0, w) ∷ es) (e ∷ set_value t es w) (t e.0)
-    (λ is_so. (subst (P e.0) (ap (λ (k : StoredBatch). k.batch) (one_of e.1 h (rw is_so at is)) ∙ sym same) all.0, all.1)) (λ not_so. (all.0, replaced P t es h w same (rw not_so at is) all.1))
+    (λ is_so. (subst (P e.0) (ap (λ (k : StoredBatch). k.batch) (one_of e.1 h (rw is_so at is)) ∙ sym same) all.0, all.1))
+    (λ not_so. (all.0, replaced P t es h w same (rw not_so at is) all.1))
 
 pub found : (P : ℕ → List Transfer → Type 0) (id : ℕ) (es : Batches) (h : StoredBatch) → Each P es → lookup (nat_eq id) es ≡ Some h → P id h.batch
 found P id [] h all is = absurd cc
 found P id (e ∷ es) h all is = elim (cases_eq id e.0) [
-  | inl same ↦ subst (λ (n : ℕ). P n h.batch) (sym same) (subst (P e.0) (ap (λ (k : StoredBatch). k.batch) (one_of e.1 h (rw (eq-eqb id e.0 same) at is))) all.0)
+  | inl same ↦ subst (λ (n : ℕ). P n h.batch) (sym same) (subst (P e.0) (ap (λ (k : StoredBatch). k.batch) (one_of e.1 h (rw (eq-eqb id e.0 same) at is)))
+      all.0)
   | inr other ↦ found P id es h all.1 (rw (ne_eqb id e.0 other) at is)
 ]
 
@@ -85,40 +89,54 @@ gives : (m n : Machine) (a : Reply × Machine) (r : Reply) → Keeps m a.1 → G
 gives m n a r keeps is = subst (Keeps m) (sym is.1) keeps
 
 -- no number is given
-keeps_each : (m : Machine) (batches : Batches) (runs : ℕ) (store : Store) → AreNumbered m → ((P : ℕ → List Transfer → Type 0) → Each P m.batches → Each P batches)
+keeps_each : (m : Machine) (batches : Batches) (runs : ℕ) (store : Store) → AreNumbered m
+    → ((P : ℕ → List Transfer → Type 0) → Each P m.batches → Each P batches)
     → Keeps m (record { batches = batches; given = m.given; runs = runs; store = store })
 keeps_each m batches runs store numbered f = (
   (f (λ n batch. n ≤ m.given) numbered.0, λ id. let only = numbered.1 id in (only.0, f (IsOnly id only.0) only.1)),
   λ id batch holds. (holds.0, f (IsOnly id batch) holds.1),
 )
 
-staged_each : (P : ℕ → List Transfer → Type 0) (id : ℕ) (s : BatchStage) (es : Batches) (o : Option StoredBatch) → lookup (nat_eq id) es ≡ o → Each P es → Each P (staged id s es o)
+staged_each : (P : ℕ → List Transfer → Type 0) (id : ℕ) (s : BatchStage) (es : Batches) (o : Option StoredBatch) → lookup (nat_eq id) es ≡ o → Each P es
+    → Each P (staged id s es o)
 staged_each P id s es None is all = all
 staged_each P id s es (Some h) is all = replaced P (nat_eq id) es h (stored_batch h.owner h.batch s) refl is all
 
-staging : (m : Machine) (id : ℕ) (s : BatchStage) → AreNumbered m → (runs : ℕ) (store : Store) → Keeps m (record { batches = set_stage id s m.batches; given = m.given; runs = runs; store = store })
-staging m id s numbered runs store = keeps_each m (set_stage id s m.batches) runs store numbered (λ P all. staged_each P id s m.batches (lookup (nat_eq id) m.batches) refl all)
+staging : (m : Machine) (id : ℕ) (s : BatchStage) → AreNumbered m → (runs : ℕ) (store : Store)
+    → Keeps m (record { batches = set_stage id s m.batches; given = m.given; runs = runs; store = store })
+staging m id s numbered runs store = keeps_each m (set_stage id s m.batches) runs store numbered
+    (λ P all. staged_each P id s m.batches (lookup (nat_eq id) m.batches) refl all)
 
-pushed : (P : ℕ → List Transfer → Type 0) (m : Machine) (session : ℕ) (batch : List Transfer) → Each P m.batches → P (m.given + 1) batch → Each P (accept m session batch).1.batches
-pushed P m session batch all here = every-push (λ (e : ℕ × StoredBatch). P e.0 e.1.batch) m.batches (m.given + 1, stored_batch session batch stage.Waiting) all here
+pushed : (P : ℕ → List Transfer → Type 0) (m : Machine) (session : ℕ) (batch : List Transfer) → Each P m.batches → P (m.given + 1) batch
+    → Each P (accept m session batch).1.batches
+pushed P m session batch all here = every-push (λ (e : ℕ × StoredBatch). P e.0 e.1.batch) m.batches (m.given + 1, stored_batch session batch stage.Waiting) all
+    here
 
 weaker : (P : ℕ → List Transfer → Type 0) (m : Machine) → AreNumbered m → ((n : ℕ) (batch : List Transfer) → n ≤ m.given → P n batch) → Each P m.batches
 weaker P m numbered f =
     let few = λ (e : ℕ × StoredBatch). e.0 ≤ m.given in
     every_both few few (λ (e : ℕ × StoredBatch). P e.0 e.1.batch) m.batches (λ e le again. f e.0 e.1.batch le) numbered.0 numbered.0
 
-pushed_only : (m : Machine) (session : ℕ) (batch : List Transfer) (id : ℕ) → AreNumbered m → (some : List Transfer) × Each (IsOnly id some) (accept m session batch).1.batches
+pushed_only : (m : Machine) (session : ℕ) (batch : List Transfer) (id : ℕ) → AreNumbered m → (some : List Transfer)
+    × Each (IsOnly id some) (accept m session batch).1.batches
 pushed_only m session batch id numbered =
     let old = numbered.1 id in
     elim (cases_eq id (m.given + 1)) [
-      | inl last ↦ (batch, pushed (IsOnly id batch) m session batch (weaker (IsOnly id batch) m numbered (λ n other le at. absurd (omega (arith, le, at, last)))) (λ at. refl))
+      | inl last ↦ (
+        batch,
+        pushed (IsOnly id batch) m session batch
+            (weaker (IsOnly id batch) m numbered (λ n other le at. absurd (omega (arith, le, at, last)))) (λ at. refl),
+      )
       | inr other ↦ (old.0, pushed (IsOnly id old.0) m session batch old.1 (λ at. absurd (other (sym at))))
     ]
 
 submitted : (m : Machine) (session : ℕ) (batch : List Transfer) (b : Bool) → AreNumbered m → Keeps m (if b then accept m session batch else refuse m BookFull).1
 submitted m session batch false numbered = stays m m numbered refl
 submitted m session batch true numbered = (
-  (pushed (λ n some. n ≤ m.given + 1) m session batch (weaker (λ n some. n ≤ m.given + 1) m numbered (λ n some le. omega (arith, le))) (omega arith), λ id. pushed_only m session batch id numbered),
+  (
+    pushed (λ n some. n ≤ m.given + 1) m session batch (weaker (λ n some. n ≤ m.given + 1) m numbered (λ n some le. omega (arith, le))) (omega arith),
+    λ id. pushed_only m session batch id numbered,
+  ),
   λ id old holds. (omega (arith, holds.0), pushed (IsOnly id old) m session batch holds.1 (λ at. absurd (omega (arith, holds.0, at)))),
 )
 
@@ -130,7 +148,8 @@ settled_at : (m : Machine) (id : ℕ) (plan : Plan) (s : BatchStage) → AreNumb
 settled_at m id plan stage.Waiting numbered = staging m id (stage.Planned plan) numbered m.runs m.store
 settled_at m id plan s numbered = stays m m numbered refl
 
-settled_if : (m : Machine) (id : ℕ) (plan : Plan) (s : BatchStage) (b : Bool) → AreNumbered m → Keeps m (if b then settle_at m id plan s else refuse m Stranger).1
+settled_if : (m : Machine) (id : ℕ) (plan : Plan) (s : BatchStage) (b : Bool) → AreNumbered m
+    → Keeps m (if b then settle_at m id plan s else refuse m Stranger).1
 settled_if m id plan s true numbered = settled_at m id plan s numbered
 settled_if m id plan s false numbered = stays m m numbered refl
 

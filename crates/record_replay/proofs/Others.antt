@@ -28,7 +28,8 @@ more_if e xs h t u false is = omega (arith, is)
 one_more : (e : Entry) (es : List Entry) (ns : List ℕ) → total (e ∷ es) ns ≡ hits e.session ns + total es ns
 one_more e es [] = refl
 one_more e es (n ∷ ns) =
-    total_cons (e ∷ es) n ns ∙ more_if e (own n es) (hits e.session ns) (total (e ∷ es) ns) (total es ns) (nat_eq e.session n) (one_more e es ns) ∙ ap (λ (k : ℕ). hits e.session (n ∷ ns) + k) (sym (total_cons es n ns))
+    total_cons (e ∷ es) n ns ∙ more_if e (own n es) (hits e.session ns) (total (e ∷ es) ns) (total es ns) (nat_eq e.session n) (one_more e es ns)
+    ∙ ap (λ (k : ℕ). hits e.session (n ∷ ns) + k) (sym (total_cons es n ns))
 
 -- ---- numbers without a gap
 
@@ -59,7 +60,8 @@ once : (s a k : ℕ) → IsOnce s (a + k) (hits s (range_with_len a k))
 once s a zero = (omega arith, (λ one. omega (arith, one)))
 once s a (suc k) =
     let h = hits s (range_with_len (a + 1) k) in
-    once_if s a (a + suc k) h (nat_eq s a) refl (λ less. missed s (a + 1) k less) (omega arith) (widened s (a + 1 + k) (a + suc k) h (once s (a + 1) k) (omega arith))
+    once_if s a (a + suc k) h (nat_eq s a) refl (λ less. missed s (a + 1) k less) (omega arith)
+    (widened s (a + 1 + k) (a + suc k) h (once s (a + 1) k) (omega arith))
 
 -- ---- histories
 
@@ -97,7 +99,8 @@ own_tail_if : (P : Entry → Type 0) (e : Entry) (xs : List Entry) (b : Bool) �
 own_tail_if P e xs true all = all.1
 own_tail_if P e xs false all = all
 
-pub all_own : (P : Entry → Type 0) (n : ℕ) (es : List Entry) → AllByRecursion (λ e. e.session < n) es → ((s : ℕ) → s < n → AllByRecursion P (own s es)) → AllByRecursion P es
+pub all_own : (P : Entry → Type 0) (n : ℕ) (es : List Entry) → AllByRecursion (λ e. e.session < n) es → ((s : ℕ) → s < n → AllByRecursion P (own s es))
+    → AllByRecursion P es
 all_own P n [] each all = tt
 all_own P n (e ∷ es) each all = (
   own_head_if P e (own e.session es) (nat_eq e.session e.session) (eq-eqb e.session e.session refl) (all e.session each.0),

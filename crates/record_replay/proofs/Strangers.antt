@@ -48,19 +48,22 @@ abbrev batch_in_reply : Reply → List Transfer
 batch_in_reply (reply.Fetched batch) = batch
 batch_in_reply r = []
 
-fetched_from : (m n : Machine) (session id : ℕ) (batch : List Transfer) (o : Option StoredBatch) → batch_of m session id ≡ o → AreNumbered m → reply.Fetched batch ≡ (fetch m o).0 → Holds m id batch
+fetched_from : (m n : Machine) (session id : ℕ) (batch : List Transfer) (o : Option StoredBatch) → batch_of m session id ≡ o → AreNumbered m
+    → reply.Fetched batch ≡ (fetch m o).0 → Holds m id batch
 fetched_from m n session id batch None at numbered is = absurd cc
 fetched_from m n session id batch (Some h) at numbered is =
     subst (Holds m id) (sym (ap batch_in_reply is)) (holds_found m id h numbered (owned_found session (lookup (nat_eq id) m.batches) h at))
 
 after_fetch : (m n : Machine) (session : ℕ) (c : Call) (r : Reply) → AreNumbered m → IsMachineStep m session c r n → HoldsFetched n (fetched_by c r)
 after_fetch m n session (Fetch id) (reply.Fetched batch) numbered step =
-    (step_keeps m session (Fetch id) (reply.Fetched batch) n numbered step).1 id batch (fetched_from m n session id batch (batch_of m session id) refl numbered step.0)
+    (step_keeps m session (Fetch id) (reply.Fetched batch) n numbered step).1 id batch (fetched_from m n session id batch (batch_of m session id) refl numbered
+    step.0)
 after_fetch m n session c r numbered step = tt
 
 -- ---- no other call has that reply
 
-submit_no : (m : Machine) (session : ℕ) (batch : List Transfer) (b : Bool) → reply.Refused Stranger ≡ (if b then accept m session batch else refuse m BookFull).0 → ⊥
+submit_no : (m : Machine) (session : ℕ) (batch : List Transfer) (b : Bool) → reply.Refused Stranger
+    ≡ (if b then accept m session batch else refuse m BookFull).0 → ⊥
 submit_no m session batch true is = absurd cc
 submit_no m session batch false is = absurd cc
 
@@ -93,11 +96,14 @@ run_no : (m : Machine) (id : ℕ) (o : Option StoredBatch) (n : Machine) → IsR
 run_no m id None n is = let never : reply.Refused Stranger ≡ reply.Refused Unknown = is.0 in absurd cc
 run_no m id (Some h) n is = run_at_no m id h.stage n is
 
-own_plan : (m : Machine) (session id : ℕ) (batch : List Transfer) (o : Option StoredBatch) → batch_of m session id ≡ o → Holds m id batch → (plan : Plan) → plan.batch ≡ batch → IsPlanFor plan o
+own_plan : (m : Machine) (session id : ℕ) (batch : List Transfer) (o : Option StoredBatch) → batch_of m session id ≡ o → Holds m id batch → (plan : Plan)
+    → plan.batch ≡ batch → IsPlanFor plan o
 own_plan m session id batch None at holds plan same = tt
-own_plan m session id batch (Some h) at holds plan same = same ∙ sym (found (IsOnly id batch) id m.batches h holds.1 (owned_found session (lookup (nat_eq id) m.batches) h at) refl)
+own_plan m session id batch (Some h) at holds plan same = same
+    ∙ sym (found (IsOnly id batch) id m.batches h holds.1 (owned_found session (lookup (nat_eq id) m.batches) h at) refl)
 
-settle_no : (m n : Machine) (session : ℕ) (c : Call) (last : Option (ℕ × List Transfer)) → HoldsFetched m last → SettlesFetched last c → IsMachineStep m session c (reply.Refused Stranger) n → ⊥
+settle_no : (m n : Machine) (session : ℕ) (c : Call) (last : Option (ℕ × List Transfer)) → HoldsFetched m last → SettlesFetched last c
+    → IsMachineStep m session c (reply.Refused Stranger) n → ⊥
 settle_no m n session (Settle id plan) None holds settles step = settles
 settle_no m n session (Settle id plan) (Some batch) holds settles step =
     let mine : Holds m id batch.1 = subst (λ (i : ℕ). Holds m i batch.1) (sym settles.0) holds in
@@ -120,19 +126,23 @@ abbrev next_fetched : Option (ℕ × List Transfer) → Option (ℕ × List Tran
 next_fetched before now true = now
 next_fetched before now false = before
 
-holds_next : (n : Machine) (before now : Option (ℕ × List Transfer)) → HoldsFetched n before → HoldsFetched n now → (b : Bool) → HoldsFetched n (next_fetched before now b)
+holds_next : (n : Machine) (before now : Option (ℕ × List Transfer)) → HoldsFetched n before → HoldsFetched n now → (b : Bool)
+    → HoldsFetched n (next_fetched before now b)
 holds_next n before now old new true = new
 holds_next n before now old new false = old
 
-settle_next : (before : Option (ℕ × List Transfer)) (e : Entry) (es : List Entry) (b : Bool) → SettleFetched before (cond b (e ∷ es) es) → SettleFetched (next_fetched before (fetched_by e.call e.reply) b) es
+settle_next : (before : Option (ℕ × List Transfer)) (e : Entry) (es : List Entry) (b : Bool) → SettleFetched before (cond b (e ∷ es) es)
+    → SettleFetched (next_fetched before (fetched_by e.call e.reply) b) es
 settle_next before e es true settle = settle.1
 settle_next before e es false settle = settle
 
-settles_here : (before : Option (ℕ × List Transfer)) (e : Entry) (es : List Entry) (b : Bool) → b ≡ true → SettleFetched before (cond b (e ∷ es) es) → SettlesFetched before e.call
+settles_here : (before : Option (ℕ × List Transfer)) (e : Entry) (es : List Entry) (b : Bool) → b ≡ true → SettleFetched before (cond b (e ∷ es) es)
+    → SettlesFetched before e.call
 settles_here before e es true at settle = settle.0
 settles_here before e es false at settle = absurd cc
 
-none_strange : (m : Machine) (es : List Entry) (end : Machine) (last : Last) → AreNumbered m → ((session : ℕ) → HoldsFetched m (last session)) → ((session : ℕ) → SettleFetched (last session) (own session es)) → IsReplay m es end
+none_strange : (m : Machine) (es : List Entry) (end : Machine) (last : Last) → AreNumbered m → ((session : ℕ) → HoldsFetched m (last session))
+    → ((session : ℕ) → SettleFetched (last session) (own session es)) → IsReplay m es end
     → AllByRecursion (λ e. e.reply ≢ reply.Refused Stranger) es
 none_strange m [] end last numbered holds settle led = tt
 none_strange m (e ∷ es) end last numbered holds settle led =
@@ -142,7 +152,8 @@ none_strange m (e ∷ es) end last numbered holds settle led =
     let here = settles_here (last by) e (own by es) (nat_eq by by) (eq-eqb by by refl) (settle by) in
     let new = after_fetch m n by e.call e.reply numbered led.1 in (
       (λ is. settle_no m n by e.call (last by) (holds by) here (subst (λ (r : Reply). IsMachineStep m by e.call r n) is led.1)),
-      none_strange n es end (λ s. next_fetched (last s) (fetched_by e.call e.reply) (nat_eq by s)) keeps.0 (λ s. holds_next n (last s) (fetched_by e.call e.reply) (still m n (last s) keeps (holds s)) new (nat_eq by s))
+      none_strange n es end (λ s. next_fetched (last s) (fetched_by e.call e.reply) (nat_eq by s)) keeps.0
+          (λ s. holds_next n (last s) (fetched_by e.call e.reply) (still m n (last s) keeps (holds s)) new (nat_eq by s))
           (λ s. settle_next (last s) e (own s es) (nat_eq by s) (settle s)) led.2,
     )
 

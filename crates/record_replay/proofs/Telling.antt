@@ -15,7 +15,8 @@ use Rattle.record_replay.specs.SessionLaws.{SessionsAreTold}
 use Rattle.record_replay.proofs.Others.{no_others, none_own, all_own}
 use Rattle.record_replay.proofs.Strangers.{no_strangers}
 
-each_told : (n : ℕ) (es : List Entry) → n ≤ 1000000000 → AllByRecursion (λ e. e.session < n) es → AllByRecursion (λ e. CanSay (told e.call)) es → AllByRecursion (λ e. IsUnstopped e.reply) es
+each_told : (n : ℕ) (es : List Entry) → n ≤ 1000000000 → AllByRecursion (λ e. e.session < n) es → AllByRecursion (λ e. CanSay (told e.call)) es
+    → AllByRecursion (λ e. IsUnstopped e.reply) es
     → AllByRecursion (λ e. e.reply ≢ reply.Refused Stranger) es → AllByRecursion CanTell es
 each_told n [] few sessions say unstopped strange = tt
 each_told n (e ∷ es) few sessions say unstopped strange = (
@@ -24,7 +25,8 @@ each_told n (e ∷ es) few sessions say unstopped strange = (
   each_told n es few sessions.1 say.1 unstopped.1 strange.1,
 )
 
-settle_all : (n : ℕ) (es : List Entry) → AllByRecursion (λ e. e.session < n) es → ((s : ℕ) → s < n → SettleFetched None (own s es)) → (s : ℕ) → SettleFetched None (own s es)
+settle_all : (n : ℕ) (es : List Entry) → AllByRecursion (λ e. e.session < n) es → ((s : ℕ) → s < n → SettleFetched None (own s es)) → (s : ℕ)
+    → SettleFetched None (own s es)
 settle_all n es sessions settle s = elim (cases_lt s n) [
   | inl less ↦ settle s less
   | inr out ↦ subst (SettleFetched None) (sym (none_own s n es sessions (omega (arith, out)))) tt
@@ -35,5 +37,6 @@ sessions_are_told opening earlier es mid end n before led counted few say unstop
     let sessions = no_others es n counted in
     let strange = no_strangers opening earlier es mid end before led (settle_all n es sessions (λ s less. (say s less).settle)) in
     All-from_recursion CanTell es
-    (each_told n es (omega (arith, few)) sessions (all_own (λ e. CanSay (told e.call)) n es sessions (λ s less. recursion_from_All (λ e. CanSay (told e.call)) (own s es) (say s less).calls))
+    (each_told n es (omega (arith, few)) sessions
+    (all_own (λ e. CanSay (told e.call)) n es sessions (λ s less. recursion_from_All (λ e. CanSay (told e.call)) (own s es) (say s less).calls))
     (recursion_from_All (λ e. IsUnstopped e.reply) es unstopped) (recursion_from_All (λ e. e.reply ≢ reply.Refused Stranger) es strange))

@@ -1,5 +1,6 @@
 -- What `replay` answers.
-use Rattle.std.specs.Prelude.{◌≡◌, ◌⊎◌, ℕ, ◌+◌, ◌-◌, List, ◌++◌, length, Option, Some, None, option_map}
+use Rattle.std.specs.Prelude.{◌≡◌, ◌⊎◌, ℕ, ◌+◌, ◌-◌, List, ◌++◌, length, Option, Some, None}
+use Rattle.std.specs.Prelude.{option_map}
 use Rattle.batch.specs.ShapeView.{ShapeView, IsShape}
 use Rattle.batch.specs.ShapeText.{shape_text}
 use Rattle.line_words.specs.HexWords.{IsWord}
@@ -9,7 +10,8 @@ use Rattle.batch_book.specs.declared.entry.Entry.{Entry}
 use Rattle.batch_book.specs.Machine.{Machine}
 use Rattle.book_record.specs.Fronts.{IsTorn, last_lines}
 use Rattle.book_record.specs.Sums.{adler}
-use Rattle.book_record.specs.Heads.{AreNames, BeginsWithNoHead, IsHeadOf, head_of, rack_line, session_limit}
+use Rattle.book_record.specs.Heads.{AreNames, BeginsWithNoHead, IsHeadOf, head_of, rack_line}
+use Rattle.book_record.specs.Heads.{session_limit}
 use Rattle.record_replay.specs.declared.fault.RecordError.{RecordError}
 use Rattle.record_replay.specs.declared.fault.RecordFault.{RecordFault}
 use Rattle.record_replay.specs.declared.fault.RecordFault.TheVariants as record_fault

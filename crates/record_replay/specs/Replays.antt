@@ -1,6 +1,7 @@
 -- How far a record is right, and what is first wrong with it. The numbers of its sessions are below
 -- a limit, which its head says.
-use Rattle.std.specs.Prelude.{◌≡◌, ◌≢◌, ◌⊎◌, ℕ, ◌<◌, ◌≤◌, List, [], ◌++◌, drop, length, All, Option, Some, None, option_map}
+use Rattle.std.specs.Prelude.{◌≡◌, ◌≢◌, ◌⊎◌, ℕ, ◌<◌, ◌≤◌, List, [], ◌++◌, drop, length, All, Option}
+use Rattle.std.specs.Prelude.{Some, None, option_map}
 use Rattle.batch.specs.Text.{IsNumber, number, space}
 use Rattle.module_memory.specs.Store.{Store}
 use Rattle.schedule_certificate.specs.Plans.{Plan}
@@ -12,7 +13,8 @@ use Rattle.batch_book.specs.declared.reply.Reply.{Reply}
 use Rattle.batch_book.specs.History.{BookView, IsGrown, IsReplay}
 use Rattle.batch_book.specs.Machine.{Machine, batch_of, opened, IsMachineStep}
 use Rattle.batch_book.specs.Told.{told}
-use Rattle.book_record.specs.RecordText.{id_of, call_text, reply_text, entry_lines, texts, CanSay, CanBeReplied, CanTell}
+use Rattle.book_record.specs.RecordText.{id_of, call_text, reply_text, entry_lines, texts, CanSay}
+use Rattle.book_record.specs.RecordText.{CanBeReplied, CanTell}
 use Rattle.book_record.specs.Fronts.{IsDamaged, IsSummed, IsTorn, end_line, last_lines}
 use Rattle.book_record.specs.Reading.{BeginsWithNoEntry}
 use Rattle.book_record.specs.Sums.{sum_at, sum_line}
@@ -22,7 +24,9 @@ use Rattle.record_replay.specs.declared.replaying.Next.{Next}
 use Rattle.record_replay.specs.declared.replaying.Next.TheVariants as next
 use Rattle.record_replay.specs.declared.fault.RecordError.{RecordError}
 use Rattle.record_replay.specs.declared.fault.RecordFault.{RecordFault}
-use Rattle.record_replay.specs.declared.fault.RecordFault.TheVariants.{Call as NoCall, Reply as OtherReply, Sum as OtherSum, More}
+use Rattle.record_replay.specs.declared.fault.RecordFault.TheVariants.{Call as NoCall}
+use Rattle.record_replay.specs.declared.fault.RecordFault.TheVariants.{Reply as OtherReply}
+use Rattle.record_replay.specs.declared.fault.RecordFault.TheVariants.{Sum as OtherSum, More}
 
 -- ---- one entry
 

@@ -1,6 +1,7 @@
--- What the laws state. Contracts of `recorded_sessions` cite `IsRecorded`; of the rest no contract of a
--- call cites any.
-use Rattle.std.specs.Prelude.{◌≡◌, ℕ, ◌^◌, ◌<◌, ◌≤◌, Bool, List, [], ◌++◌, length, All, Option, None, Some}
+-- What the laws state. Contracts of `recorded_sessions` cite `IsRecorded`; of the rest no contract
+-- of a call cites any.
+use Rattle.std.specs.Prelude.{◌≡◌, ℕ, ◌^◌, ◌<◌, ◌≤◌, Bool, List, [], ◌++◌, length, All, Option}
+use Rattle.std.specs.Prelude.{None, Some}
 use Rattle.batch.specs.declared.limits.TheConstants.{MAX_DIGITS}
 use Rattle.module_memory.specs.Images.{image_of}
 use Rattle.module_memory.specs.Store.{Store}
@@ -78,7 +79,8 @@ pub record IsRecorded (names : List (List ℕ)) (book : BookView) (file : List �
 abbrev pub StreamIsRecorded : Type 0
 StreamIsRecorded =
     (names : List (List ℕ)) (was left : BookView) (text : List ℕ) → left.opening ≡ was.opening
-    → IsWritten (Some (record_of names was.opening was.history)) (Some text) was.history left.durable
+    → IsWritten (Some (record_of names was.opening was.history)) (Some text) was.history
+    left.durable
     left.history left.whole
     → IsRecorded names left text
     × (left.durable ≡ left.history → (end missing : List ℕ)

@@ -1,11 +1,14 @@
 //! The command `replay`.
 
-ghost use Rattle.std.specs.Prelude.{◌≡◌, ◌⊎◌, ◌+◌, ◌<◌, ◌≤◌, ◌^◌, IfOk, IfSome, IfNone, None, Some, length, option_map};
+ghost use Rattle.std.specs.Prelude.{◌≡◌, ◌⊎◌, ◌+◌, ◌<◌, ◌≤◌, ◌^◌, IfOk, IfSome, IfNone, None, Some};
+ghost use Rattle.std.specs.Prelude.{length, option_map};
 ghost use Rattle.plan_answers.specs.Lent.{bytes_of};
 ghost use Rattle.plan_answers.specs.Refusals.{Refuses};
 ghost use Rattle.book_record.specs.Heads.{BeginsWithNoHead};
 ghost use Rattle.record_replay.specs.Replays.{AreFewer, Ends};
-ghost use Rattle.record_replay.specs.ReplayAnswers.{IsAfterHead, IsHeadDue, IsNoRecordOn, IsRecordAnswer, IsRecordOn, IsReplayAnswer, IsShapeOf, IsTornSo, RefusesHead, of_record};
+ghost use Rattle.record_replay.specs.ReplayAnswers.{IsAfterHead, IsHeadDue, IsNoRecordOn};
+ghost use Rattle.record_replay.specs.ReplayAnswers.{IsRecordAnswer, IsRecordOn, IsReplayAnswer};
+ghost use Rattle.record_replay.specs.ReplayAnswers.{IsShapeOf, IsTornSo, RefusesHead, of_record};
 
 use crate::{RecordError, RecordFault, replay};
 use book_record::{is_torn, rack_line, read_head, session_limit, sum_of};

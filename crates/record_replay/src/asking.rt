@@ -9,7 +9,7 @@ ghost use Rattle.book_record.specs.RecordText.{CanBeReplied};
 ghost use Rattle.record_replay.specs.Replays.{IsPlanFor, HasOwnPlanIn};
 
 use batch::Batch;
-use batch_book::{Book, BookRefusal, Call, RecordedCall, Reply, NullHistory};
+use batch_book::{Book, BookRefusal, Call, NullHistory, RecordedCall, Reply};
 use crossbar::MemoryPort;
 use exchange_limits::WorkerCount;
 use peek_poke::PlainWires;

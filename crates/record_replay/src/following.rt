@@ -6,7 +6,7 @@ ghost use Rattle.record_replay.specs.Replays.{GoesOnBy, IsEntryFault};
 
 use crate::asking::{PlainPlant, ask, call_of};
 use crate::fault::EntryFault;
-use batch_book::{Book, Reply, NullHistory};
+use batch_book::{Book, NullHistory, Reply};
 use book_record::{id_of, push_reply, read_entry};
 use client_session::reply_line::ReplyLine;
 use exchange_limits::WorkerCount;

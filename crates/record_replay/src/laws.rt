@@ -1,6 +1,7 @@
 //! Laws of the records that sessions leave.
 
-ghost use Rattle.record_replay.specs.SessionRecords.{HostIsReplayed, ServeIsReplayed, StreamIsRecorded, TalkIsReplayed};
+ghost use Rattle.record_replay.specs.SessionRecords.{HostIsReplayed, ServeIsReplayed};
+ghost use Rattle.record_replay.specs.SessionRecords.{StreamIsRecorded, TalkIsReplayed};
 ghost use Rattle.record_replay.specs.SessionLaws.{NoStrangers, SessionsAreTold, SessionsSay};
 
 /// Whatever entries come before: if each session settles a plan right after fetching its batch, no

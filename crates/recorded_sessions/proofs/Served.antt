@@ -25,16 +25,21 @@ use Rattle.named_files.specs.declared.notes.JobFailure.{JobFailure}
 use Rattle.named_files.specs.declared.outputs.Receipts.{Receipts}
 
 -- sessions that didn't begin
-unserved_of : {C : Type 0} (holds : List ℕ → List ℕ → Type 0) (received : C → Closed) (shared : SharedRack) (names : List Text) (image : Option (List ℕ)) (sessions : Printed → Sessions) (none : Type 0) (r : Result JobResult JobFailure) (receipts : Receipts C) (lost : WriteFailures) (cut : Option CutEntry)
-    → IsUnserved holds received shared names image (record { end = r; receipts = receipts; lost = lost; cut = cut }) → ((p : Printed) → (sessions p).unserved) → none → IsLived holds received shared names image sessions none (record { end = r; receipts = receipts; lost = lost; cut = cut })
+unserved_of : {C : Type 0} (holds : List ℕ → List ℕ → Type 0) (received : C → Closed) (shared : SharedRack) (names : List Text) (image : Option (List ℕ))
+    (sessions : Printed → Sessions) (none : Type 0) (r : Result JobResult JobFailure) (receipts : Receipts C) (lost : WriteFailures) (cut : Option CutEntry)
+    → IsUnserved holds received shared names image (record { end = r; receipts = receipts; lost = lost; cut = cut }) → ((p : Printed) → (sessions p).unserved)
+    → none → IsLived holds received shared names image sessions none (record { end = r; receipts = receipts; lost = lost; cut = cut })
 unserved_of holds received shared names image sessions none (Ok found) receipts lost cut is unserved so =
     record { answer = (None, (unserved found.answer, (is.answer.0, is.answer.1, inl is.answer.2)), is.left, tt); missed = tt }
 unserved_of holds received shared names image sessions none (Err e) receipts lost cut is unserved so =
     record { answer = tt; missed = (is.missed, so, (is.left.0, is.left.1, refl)) }
 
-pub unserved_lived : {C : Type 0} (holds : List ℕ → List ℕ → Type 0) (received : C → Closed) (shared : SharedRack) (names : List Text) (image : Option (List ℕ)) (sessions : Printed → Sessions) (none : Type 0) (kept : SessionsResult C)
-    → IsUnserved holds received shared names image kept → ((p : Printed) → (sessions p).unserved) → none → IsLived holds received shared names image sessions none kept
-unserved_lived holds received shared names image sessions none kept = unserved_of holds received shared names image sessions none kept.end kept.receipts kept.lost kept.cut
+pub unserved_lived : {C : Type 0} (holds : List ℕ → List ℕ → Type 0) (received : C → Closed) (shared : SharedRack) (names : List Text) (image : Option (List ℕ))
+    (sessions : Printed → Sessions) (none : Type 0) (kept : SessionsResult C)
+    → IsUnserved holds received shared names image kept → ((p : Printed) → (sessions p).unserved) → none → IsLived holds received shared names image sessions
+    none kept
+unserved_lived holds received shared names image sessions none kept = unserved_of holds received shared names image sessions none kept.end kept.receipts
+    kept.lost kept.cut
 
 -- how sessions that may have begun ended
 pub record IsEnding (sessions : Printed → Sessions) (none : Type 0) (was left : BookView) (end : Result Printed Refusal) : Type 0 where
@@ -43,19 +48,38 @@ pub record IsEnding (sessions : Printed → Sessions) (none : Type 0) (was left 
   pub so : (why : Refusal) → end ≡ Err why → none
   pub refused : (why : Refusal) → end ≡ Err why → why ≢ NoMemory → (p : Printed) → (sessions p).may_refuse why
 
-lived_of : {C : Type 0} (holds : List ℕ → List ℕ → Type 0) (received : C → Closed) (shared : SharedRack) (names : List Text) (image : Option (List ℕ)) (sessions : Printed → Sessions) (none : Type 0) (end : Result Printed Refusal) (was left : BookView) (opening : Store) (r : Result JobResult JobFailure) (receipts : Receipts C) (lost : WriteFailures) (cut : Option CutEntry)
-    → IsRackOf shared.shape image opening → BeginsFor holds shared.record_out opening names was → IsToldBy end r → AreLiveKept holds received shared names (left_by end left) receipts lost → IsEnding sessions none was left end → IsCutFromRecord holds shared.record_out names was cut → IsLived holds received shared names image sessions none (record { end = r; receipts = receipts; lost = lost; cut = cut })
+lived_of : {C : Type 0} (holds : List ℕ → List ℕ → Type 0) (received : C → Closed) (shared : SharedRack) (names : List Text) (image : Option (List ℕ))
+    (sessions : Printed → Sessions) (none : Type 0) (end : Result Printed Refusal) (was left : BookView) (opening : Store) (r : Result JobResult JobFailure)
+    (receipts : Receipts C) (lost : WriteFailures) (cut : Option CutEntry)
+    → IsRackOf shared.shape image opening → BeginsFor holds shared.record_out opening names was → IsToldBy end r → AreLiveKept holds received shared names
+    (left_by end left) receipts lost → IsEnding sessions none was left end → IsCutFromRecord holds shared.record_out names was cut
+    → IsLived holds received shared names image sessions none (record { end = r; receipts = receipts; lost = lost; cut = cut })
 lived_of holds received shared names image sessions none (Ok p) was left opening (Ok found) receipts lost cut rack begins told keeps ending cut_is =
-    record { answer = (Some left, (opening, rack, was, begins, subst (λ (q : Printed). (sessions q).served was left) (sym told) (ending.done p refl)), keeps, (opening, was, begins, cut_is)); missed = tt }
+    record {
+      answer = (
+        Some left,
+        (opening, rack, was, begins, subst (λ (q : Printed). (sessions q).served was left) (sym told) (ending.done p refl)),
+        keeps,
+        (opening, was, begins, cut_is),
+      );
+      missed = tt;
+    }
 lived_of holds received shared names image sessions none (Ok p) was left opening (Err e) receipts lost cut rack begins told keeps ending cut_is = absurd told
 lived_of holds received shared names image sessions none (Err why) was left opening (Ok found) receipts lost cut rack begins told keeps ending cut_is =
-    record { answer = (None, (ending.unserved why refl found.answer, (why, told, inr (opening, rack, ending.refused why refl told.0 found.answer))), keeps, tt); missed = tt }
+    record {
+      answer = (None, (ending.unserved why refl found.answer, (why, told, inr (opening, rack, ending.refused why refl told.0 found.answer))), keeps, tt);
+      missed = tt;
+    }
 lived_of holds received shared names image sessions none (Err why) was left opening (Err e) receipts lost cut rack begins told keeps ending cut_is =
     record { answer = tt; missed = (told, ending.so why refl, (keeps.0, keeps.1, refl)) }
 
-pub lived : {C : Type 0} (holds : List ℕ → List ℕ → Type 0) (received : C → Closed) (shared : SharedRack) (names : List Text) (image : Option (List ℕ)) (sessions : Printed → Sessions) (none : Type 0) (end : Result Printed Refusal) (was left : BookView) (opening : Store) (kept : SessionsResult C)
-    → IsRackOf shared.shape image opening → BeginsFor holds shared.record_out opening names was → IsToldBy end kept.end → AreLiveKept holds received shared names (left_by end left) kept.receipts kept.lost → IsEnding sessions none was left end → IsCutFromRecord holds shared.record_out names was kept.cut → IsLived holds received shared names image sessions none kept
-lived holds received shared names image sessions none end was left opening kept = lived_of holds received shared names image sessions none end was left opening kept.end kept.receipts kept.lost kept.cut
+pub lived : {C : Type 0} (holds : List ℕ → List ℕ → Type 0) (received : C → Closed) (shared : SharedRack) (names : List Text) (image : Option (List ℕ))
+    (sessions : Printed → Sessions) (none : Type 0) (end : Result Printed Refusal) (was left : BookView) (opening : Store) (kept : SessionsResult C)
+    → IsRackOf shared.shape image opening → BeginsFor holds shared.record_out opening names was → IsToldBy end kept.end
+    → AreLiveKept holds received shared names (left_by end left) kept.receipts kept.lost → IsEnding sessions none was left end
+    → IsCutFromRecord holds shared.record_out names was kept.cut → IsLived holds received shared names image sessions none kept
+lived holds received shared names image sessions none end was left opening kept = lived_of holds received shared names image sessions none end was left opening
+    kept.end kept.receipts kept.lost kept.cut
 
 pub none_ended : (before after : List (Ending (List ℕ))) → before ≡ [] → after ≡ before → ends_of after ≡ []
 none_ended before after none same = ap ends_of (same ∙ none)
@@ -65,7 +89,9 @@ only_threads why (inl t) not_memory = t
 only_threads why (inr m) not_memory = absurd (not_memory m)
 
 -- those of a host's clients
-pub host_ending : (shared : SharedRack) (clients : KnownClients) (before after : List (Ending (List ℕ))) (was left : BookView) (end : Result Printed Refusal) → before ≡ [] → IsHostOver (loses shared) was clients before after end left → IsEnding (hosting shared clients (ends_of after)) (ends_of after ≡ []) was left end
+pub host_ending : (shared : SharedRack) (clients : KnownClients) (before after : List (Ending (List ℕ))) (was left : BookView) (end : Result Printed Refusal)
+    → before ≡ [] → IsHostOver (loses shared) was clients before after end left → IsEnding (hosting shared clients (ends_of after)) (ends_of after ≡ []) was
+    left end
 host_ending shared clients before after was left (Ok p) none over = record {
   done = λ q is. subst (λ (e : Result Printed Refusal). IsHostOver (loses shared) was clients before after e left) is over;
   unserved = λ why is. absurd (let bad = is in cc);
@@ -76,11 +102,13 @@ host_ending shared clients before after was left (Err e) none over = record {
   done = λ q is. absurd (let bad = is in cc);
   unserved = λ why is q. none_ended before after none over.2;
   so = λ why is. none_ended before after none over.2;
-  refused = λ why is not_memory q. let same : e ≡ why = (let x = is in cc) in only_threads why (subst (λ (w : Refusal). (w ≡ Threads) ⊎ (w ≡ NoMemory)) same over.0) not_memory;
+  refused = λ why is not_memory q. let same : e ≡ why = (let x = is in cc) in only_threads why
+      (subst (λ (w : Refusal). (w ≡ Threads) ⊎ (w ≡ NoMemory)) same over.0) not_memory;
 }
 
 -- that of one client
-pub talk_ending : (shared : SharedRack) (before after : Option (List ℕ)) (told : List ℕ) (was left : BookView) (end : Result Printed Refusal) → IsTalkOver (loses shared) was before after told end left → IsEnding (talking shared before after told) (told ≡ []) was left end
+pub talk_ending : (shared : SharedRack) (before after : Option (List ℕ)) (told : List ℕ) (was left : BookView) (end : Result Printed Refusal)
+    → IsTalkOver (loses shared) was before after told end left → IsEnding (talking shared before after told) (told ≡ []) was left end
 talk_ending shared before after told was left (Ok p) over = record {
   done = λ q is. subst (λ (e : Result Printed Refusal). IsTalkOver (loses shared) was before after told e left) is over;
   unserved = λ why is. absurd (let bad = is in cc);

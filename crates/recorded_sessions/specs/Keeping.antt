@@ -19,9 +19,9 @@ use Rattle.named_files.specs.Outputs.{HasNothingGone, IsFileWritten, IsUnput, no
 abbrev pub HasGrown : Option (List ℕ) → Option (List ℕ) → Type 0
 HasGrown before after = (more : List ℕ) × Appends before after more
 
--- A front of the book's whole record is there: its head, each entry of the book that stands where it
--- belongs, and maybe more. What a session was told are the first ones of its own among these, and of
--- a whole book these are all (`HaveOneHistory`).
+-- A front of the book's whole record is there: its head, each entry of the book that stands where
+-- it belongs, and maybe more. What a session was told are the first ones of its own among these,
+-- and of a whole book these are all (`HaveOneHistory`).
 abbrev pub HasAllTold : List Text → BookView → Option (List ℕ) → Type 0
 HasAllTold names book text = (file : List ℕ) × (text ≡ Some file) × IsRecorded names book file
 

@@ -1,5 +1,6 @@
 -- Live sessions while their record is open.
-use Rattle.std.specs.Prelude.{◌≡◌, ℕ, Bool, true, List, [], Option, Some, None, Result, Ok, Err, IfOk, IfErr, IfSome, is_some, length}
+use Rattle.std.specs.Prelude.{◌≡◌, ℕ, Bool, true, List, [], Option, Some, None, Result, Ok, Err}
+use Rattle.std.specs.Prelude.{IfOk, IfErr, IfSome, is_some, length}
 use Rattle.clap.specs.Words.{Text}
 use Rattle.module_memory.specs.Store.{Store}
 use Rattle.batch_book.specs.History.{BookView, AreUnstopped}
@@ -30,7 +31,8 @@ use Rattle.recorded_sessions.specs.declared.live.SessionsStart.{SessionsStart}
 use Rattle.recorded_sessions.specs.declared.live.StartFailure.{StartFailure}
 
 -- the stream of a record, where there is one, has what the record tells of this book
-abbrev pub HasFront : {F : Type 0} → (F → Option (List ℕ)) → List Text → BookView → Option F → Type 0
+abbrev pub HasFront : {F : Type 0} → (F → Option (List ℕ)) → List Text → BookView → Option F
+    → Type 0
 HasFront contents names was stream =
     IfSome stream (λ file. contents file ≡ Some (record_front names was))
 
@@ -80,14 +82,16 @@ pub record IsFinishedBookAt {F : Type 0} (contents : F → Option (List ℕ)) (b
   pub entries : IfSome over.stream (λ file. over.entries ≡ numbered (length left.history))
 
 -- the same from their beginning: they have a stream where that has one
-abbrev pub IsOverFrom : {F : Type 0} → (F → Option (List ℕ)) → SessionsStart F → BookView → FinishedSessions F → Type 0
+abbrev pub IsOverFrom : {F : Type 0} → (F → Option (List ℕ)) → SessionsStart F → BookView
+    → FinishedSessions F → Type 0
 IsOverFrom contents start left over =
     (is_some over.stream ≡ is_some start.stream)
     × ((before : Option (List ℕ)) → IfSome start.stream (λ file. contents file ≡ before)
     → IsFinishedBookAt contents before start.book left over)
 
 -- the same where the stream had what the record tells of the book
-abbrev pub IsFinishedBook : {F : Type 0} → (F → Option (List ℕ)) → List Text → BookView → BookView → FinishedSessions F
+abbrev pub IsFinishedBook : {F : Type 0} → (F → Option (List ℕ)) → List Text → BookView → BookView
+    → FinishedSessions F
     → Type 0
 IsFinishedBook contents names was left over =
     IsFinishedBookAt contents (Some (record_front names was)) was left over

@@ -1,5 +1,7 @@
 -- How the record of live sessions begins, and what its file holds.
-use Rattle.std.specs.Prelude.{◌≡◌, ◌≢◌, ◌⊎◌, ◌++◌, ◌+◌, ◌==◌, ℕ, Bool, true, false, List, Option, Some, None, IfSome, MatchOption, [], count_by, length, slice_get, take}
+use Rattle.std.specs.Prelude.{◌≡◌, ◌≢◌, ◌⊎◌, ◌++◌, ◌+◌, ◌==◌, ℕ, Bool, true, false, List, Option}
+use Rattle.std.specs.Prelude.{Some, None, IfSome, MatchOption, [], count_by, length, slice_get}
+use Rattle.std.specs.Prelude.{take}
 use Rattle.clap.specs.Words.{Text}
 use Rattle.batch.specs.Text.{line_feed}
 use Rattle.module_memory.specs.Images.{image_of}
@@ -39,13 +41,14 @@ pub record IsResumed (limit : ℕ) (held head : List ℕ) (opening : Store)
 -- the entries after it were made again.
 abbrev pub BeginsAs : Bool → List ℕ → Store → List Text → BookView → Type 0
 BeginsAs resumes held opening names was =
-    ((missing : List ℕ) × (head_for opening names ≡ held ++ missing) × (was ≡ new_book_view opening))
+    ((missing : List ℕ) × (head_for opening names ≡ held ++ missing)
+    × (was ≡ new_book_view opening))
     ⊎ ((resumes ≡ true)
     × IsResumed (session_limit (length names)) held (head_for opening names) opening was)
 
 -- What is told of a rest that was cut off after this front of a record, which has so many entries:
--- how many bytes it had, and the line with which it began, counted from 1. Of the last lines nothing
--- is told.
+-- how many bytes it had, and the line with which it began, counted from 1. Of the last lines
+-- nothing is told.
 abbrev pub IsCutOf : ℕ → List ℕ → List ℕ → Option CutEntry → Type 0
 IsCutOf n front rest None = (rest ≡ []) ⊎ (rest ≡ last_lines n)
 IsCutOf n front rest (Some cut) =
@@ -61,7 +64,8 @@ pub data IsCutFrom (n : ℕ) (held front : List ℕ) (cut : Option CutEntry) : T
       → IsCutFrom n held front cut
 
 -- the same where sessions began with this book, whose record goes to this file, or to none
-abbrev pub IsCutFromRecord : Holding → Option RecordFile → List Text → BookView → Option CutEntry → Type 0
+abbrev pub IsCutFromRecord : Holding → Option RecordFile → List Text → BookView → Option CutEntry
+    → Type 0
 IsCutFromRecord holds None names was cut = cut ≡ None
 IsCutFromRecord holds (Some out) names was cut =
     (held : List ℕ) × holds out.name held

@@ -1,6 +1,8 @@
 //! Live sessions over a book whose entries go to a record, if they go anywhere.
 
-ghost use Rattle.std.specs.Prelude.{◌≡◌, ◌⊎◌, ◌++◌, ◌≤◌, ℕ, List, None, Some, IfOk, IfErr, IfSome, MatchOption, OnErr, OnOk, Option, false, is_some, length, take, true};
+ghost use Rattle.std.specs.Prelude.{◌≡◌, ◌⊎◌, ◌++◌, ◌≤◌, ℕ, List, None, Some, IfOk, IfErr, IfSome};
+ghost use Rattle.std.specs.Prelude.{MatchOption, OnErr, OnOk, Option, false, is_some, length, take};
+ghost use Rattle.std.specs.Prelude.{true};
 ghost use Rattle.batch.specs.Text.{IsNumber};
 ghost use Rattle.batch_book.specs.History.{BookView};
 ghost use Rattle.clap.specs.Words.{Text};
@@ -14,25 +16,29 @@ ghost use Rattle.book_record.specs.Heads.{session_limit};
 ghost use Rattle.book_record.specs.Streams.{IsWritten as IsStreamed};
 ghost use Rattle.book_record.specs.Sums.{numbered};
 ghost use Rattle.named_files.specs.Contents.{contents_in};
-ghost use Rattle.recorded_sessions.specs.Live.{HasFront, IsFinishedBook, IsReady, IsStarted, IsUnserved, IsStartFailure, left_by};
+ghost use Rattle.recorded_sessions.specs.Live.{HasFront, IsFinishedBook, IsReady, IsStarted};
+ghost use Rattle.recorded_sessions.specs.Live.{IsUnserved, IsStartFailure, left_by};
 ghost use Rattle.named_files.specs.Notes.{IsRefused};
 ghost use Rattle.recorded_sessions.specs.Outcomes.{IsToldBy, IsToldOf, IsStartError};
 ghost use Rattle.recorded_sessions.specs.Keeping.{AreLiveKept, AreWritten, HasGrown};
-ghost use Rattle.named_files.specs.Outputs.{AreNamed, AreOpened, IsFileWritten, IsLeftOfAny, IsOpened, IsUnput, is_new, name_of};
-ghost use Rattle.recorded_sessions.specs.Records.{BeginsAs, BeginsFor, IsRecordStart, IsCutFrom, IsSoFar, head_for, record_front};
-ghost use Rattle.named_files.specs.Streams.{IsWrittenBy, closed, written_at, written_by, written_to};
+ghost use Rattle.named_files.specs.Outputs.{AreNamed, AreOpened, IsFileWritten, IsLeftOfAny};
+ghost use Rattle.named_files.specs.Outputs.{IsOpened, IsUnput, is_new, name_of};
+ghost use Rattle.recorded_sessions.specs.Records.{BeginsAs, BeginsFor, IsRecordStart, IsCutFrom};
+ghost use Rattle.recorded_sessions.specs.Records.{IsSoFar, head_for, record_front};
+ghost use Rattle.named_files.specs.Streams.{IsWrittenBy, closed, written_at, written_by};
+ghost use Rattle.named_files.specs.Streams.{written_to};
 
 use crate::job_result::{CutEntry, JobResult};
-use crate::recording::{StartError, RecordStart, begin, new_book};
+use crate::recording::{RecordStart, StartError, begin, new_book};
 use batch_book::{BareBook, Book, EntryLog, NullHistory};
-use book_record::{StreamName, StreamHistory, last_lines, detach_stream};
+use book_record::{StreamHistory, StreamName, detach_stream, last_lines};
 use byte_streams::write_bytes;
 use command_words::{SharedRack, Text};
 use exchange_limits::WorkerCount;
 use module_memory::Rack;
 use named_files::{
-    Contents, WriteFailures, JobFailure, NamedOutput, Outputs, WriteFailure, Receipts, System, close_file, close_stream,
-    keep_file, leave_file, put_written, slice_of, read_failure,
+    Contents, JobFailure, NamedOutput, Outputs, Receipts, System, WriteFailure, WriteFailures,
+    close_file, close_stream, keep_file, leave_file, put_written, read_failure, slice_of,
 };
 use plan_answers::Answer;
 use rack_answers::read_rack;
@@ -63,7 +69,7 @@ pub(crate) struct SessionsStart<F> {
     pub(crate) cut: Option<CutEntry>,
 }
 
-/// Why they don't begin.
+/// Why they don't start.
 pub(crate) struct StartFailure<C> {
     pub(crate) why: StartError,
     /// What the file of their record held.
@@ -79,7 +85,7 @@ pub(crate) struct FinishedSessions<F> {
     /// How many entries the book has, where there is a stream.
     pub(crate) entries: u64,
     pub(crate) stream: Option<F>,
-    /// Whether each entry stands where it belongs.
+    /// Whether each entry is durable.
     pub(crate) is_whole: bool,
 }
 
@@ -218,7 +224,8 @@ fn start_on<R: Threads + Sync, S: System>(
     requires opened { IsOpened S.Stream.contents (S.holds system.now) (recorded_in shared.now) out }
     requires named { name_of out ≡ recorded_in shared.now }
     ensures started { IfOk result (IsStarted (S.holds system.now)
-        (written_at S.Stream.contents (recorded_in shared.now)) shared.now.record_out rack names.now) }
+        (written_at S.Stream.contents (recorded_in shared.now)) shared.now.record_out rack
+        names.now) }
     ensures unstarted { IfErr result (IsStartFailure (S.holds system.now) S.received
         shared.now.record_out rack names.now) }
 {
@@ -284,7 +291,10 @@ pub(crate) fn start_live<'a, R: AllocGlobal + Threads + Sync, S: System>(
     contents: &Contents,
     workers: WorkerCount,
     outputs: Outputs<'a, S::Stream>,
-) -> Result<(SessionsStart<S::Stream>, Option<NamedOutput<'a, S::Stream>>), SessionsResult<S::Receipt>>
+) -> Result<
+    (SessionsStart<S::Stream>, Option<NamedOutput<'a, S::Stream>>),
+    SessionsResult<S::Receipt>,
+>
     requires number { IsNumber (length names.now) }
     requires opened { AreOpened S.Stream.contents (S.holds system.now) (recorded_in shared.now)
         shared.now.image_out outputs }
@@ -426,8 +436,8 @@ fn end_record<S: System>(
     )
 }
 
-/// Keeps the image of the rack that sessions leave. Where their record isn't kept it is put nowhere:
-/// it could have more than the record tells.
+/// Keeps the image of the rack that sessions leave. Where their record isn't kept it is put
+/// nowhere: it could have more than the record tells.
 pub(crate) fn keep_image<S: System>(
     system: &S,
     alloc: Global,
@@ -486,8 +496,8 @@ fn keep_live<S: System>(
     (Receipts { recorded, image }, lost)
 }
 
-/// Ends what sessions leave, or leaves files as they are where none began. This was cut off from the
-/// record with which they went on.
+/// Ends what sessions leave, or leaves files as they are where none began. This was cut off from
+/// the record with which they went on.
 pub(crate) fn finish_live<S: System>(
     system: &S,
     alloc: Global,

@@ -1,6 +1,7 @@
 //! How the record of live sessions begins.
 
-ghost use Rattle.std.specs.Prelude.{◌≡◌, ◌==◌, ◌⊎◌, [], ◌≤◌, ◌+◌, ◌++◌, ◌-◌, IfErr, IfOk, Some, true, count_by, drop, ℕ, length, map, take};
+ghost use Rattle.std.specs.Prelude.{◌≡◌, ◌==◌, ◌⊎◌, [], ◌≤◌, ◌+◌, ◌++◌, ◌-◌, IfErr, IfOk, Some};
+ghost use Rattle.std.specs.Prelude.{true, count_by, drop, ℕ, length, map, take};
 ghost use Rattle.batch.specs.Text.{IsNumber, line_feed};
 ghost use Rattle.batch_book.specs.History.{new_book_view};
 ghost use Rattle.book_record.specs.Heads.{session_limit};
@@ -9,7 +10,8 @@ ghost use Rattle.record_replay.specs.declared.fault.RecordFault.TheVariants.{Hea
 ghost use Rattle.named_files.specs.Notes.{IsRefused};
 ghost use Rattle.recorded_sessions.specs.Live.{IsReady};
 ghost use Rattle.recorded_sessions.specs.Outcomes.{IsStartError, IsReplayError};
-ghost use Rattle.recorded_sessions.specs.Records.{BeginsAs, IsCommonFront, IsCutFrom, IsCutOf, IsResumed, head_for, record_front};
+ghost use Rattle.recorded_sessions.specs.Records.{BeginsAs, IsCommonFront, IsCutFrom, IsCutOf};
+ghost use Rattle.recorded_sessions.specs.Records.{IsResumed, head_for, record_front};
 
 use crate::job_result::CutEntry;
 use batch_book::{Book, NullHistory};
@@ -18,7 +20,7 @@ use command_words::Text;
 use exchange_limits::WorkerCount;
 use line_words::rest_after;
 use module_memory::Rack;
-use named_files::{JobFailure, RefusalCause};
+use named_files::JobFailure;
 use record_replay::{RecordError, RecordFault, ReplayedEntries, replay};
 use refusal_notes::file_line;
 use std::alloc::{AllocError, Global};
@@ -48,12 +50,11 @@ pub(crate) enum StartError {
 }
 
 impl From<AllocError> for StartError {
-    ghost use Rattle.std.specs.Prelude.{◌≡◌, None};
-    ghost use Rattle.named_files.specs.declared.notes.JobFailure.TheVariants.{Refused};
+    ghost use Rattle.std.specs.Prelude.{◌≡◌};
+    ghost use Rattle.named_files.specs.declared.notes.JobFailure.TheVariants.{NoMemory};
     ghost use Rattle.recorded_sessions.specs.declared.recording.StartError.TheVariants.{Missed};
-    ghost use Rattle.named_files.specs.declared.refusal_cause.RefusalCause.TheVariants.{NoMemory};
 
-    ghost from_gives = { λ _ unbegun. unbegun ≡ Missed (Refused NoMemory None) };
+    ghost from_gives = { λ _ unbegun. unbegun ≡ Missed NoMemory };
 
     fn from(error: AllocError) -> StartError {
         StartError::Missed(JobFailure::from(error))
@@ -87,8 +88,7 @@ fn holds_more(alloc: Global, name: &Text) -> JobFailure
     ensures { IsRefused result }
 {
     let why = "it isn't empty; --resume goes on with a record of the same rack and clients";
-    JobFailure::Refused {
-        why: RefusalCause::File,
+    JobFailure::File {
         note: file_line(alloc, name.as_str(), why),
     }
 }

@@ -1,6 +1,7 @@
 //! The jobs that have sessions.
 
-ghost use Rattle.std.specs.Prelude.{◌≡◌, [], List, ℕ, Option, None, IfErr, IfOk, is_some, length, true};
+ghost use Rattle.std.specs.Prelude.{◌≡◌, [], List, ℕ, Option, None, IfErr, IfOk, is_some, length};
+ghost use Rattle.std.specs.Prelude.{true};
 ghost use Rattle.book_record.specs.Heads.{whole_record};
 ghost use Rattle.book_record.specs.Sums.{numbered};
 ghost use Rattle.std.specs.Io.KnownBytes.{Appends};
@@ -12,15 +13,18 @@ ghost use Rattle.command_words.specs.declared.jobs.SessionJob.TheVariants.{Host}
 ghost use Rattle.session_answers.specs.Serving.{IsServeAnswer};
 ghost use Rattle.named_files.specs.Clients.{clients_by, ends_of};
 ghost use Rattle.named_files.specs.Contents.{contents_in};
-ghost use Rattle.recorded_sessions.specs.Live.{IsHostOver, IsLived, IsFinishedBookAt, IsOverFrom, IsReady, IsTalkOver};
+ghost use Rattle.recorded_sessions.specs.Live.{IsHostOver, IsLived, IsFinishedBookAt, IsOverFrom};
+ghost use Rattle.recorded_sessions.specs.Live.{IsReady, IsTalkOver};
 ghost use Rattle.named_files.specs.Notes.{IsRefused};
-ghost use Rattle.named_files.specs.Outputs.{AreNamed, AreOpened, IsFileWritten, IsOpened, is_new, no_write_failures, name_of};
+ghost use Rattle.named_files.specs.Outputs.{AreNamed, AreOpened, IsFileWritten, IsOpened, is_new};
+ghost use Rattle.named_files.specs.Outputs.{no_write_failures, name_of};
 ghost use Rattle.recorded_sessions.specs.Keeping.{AreScriptsKept};
 ghost use Rattle.recorded_sessions.specs.Answers.{hosting, talking};
 
 use crate::job_result::JobResult;
 use crate::live::{
-    FinishedSessions, SessionsResult, SessionsStart, start_live, finish_live, keep_image, finish_recorded, finish_unrecorded,
+    FinishedSessions, SessionsResult, SessionsStart, finish_live, finish_recorded,
+    finish_unrecorded, keep_image, start_live,
 };
 use batch_book::{Book, History, NullHistory};
 use book_record::{StreamName, attach_stream, write_record};
@@ -29,8 +33,8 @@ use client_session::Listener;
 use command_words::{SharedRack, Text};
 use exchange_limits::WorkerCount;
 use named_files::{
-    ClientFiles, Contents, DistinctFiles, FileStreams, IoFailure, WriteFailures, JobFailure, NamedOutput, Outputs,
-    WriteFailure, Receipts, ProgramRuntime, System, close_file, keep_file, slice_of,
+    ClientFiles, Contents, DistinctFiles, FileStreams, IoFailure, JobFailure, NamedOutput, Outputs,
+    ProgramRuntime, Receipts, System, WriteFailure, WriteFailures, close_file, keep_file, slice_of,
 };
 use plan_answers::Answer;
 use refusals::Refusal;
@@ -227,7 +231,15 @@ fn host_from<R: Clock + Threads + Wait + Sync, S: System>(
     } = start;
     match stream {
         Some(stream) => host_recorded::<Brand, R, S>(
-            rt, alloc, book, entries, stream, groups_writes, workers, streams, endings,
+            rt,
+            alloc,
+            book,
+            entries,
+            stream,
+            groups_writes,
+            workers,
+            streams,
+            endings,
         ),
         None => {
             let (end, book) = host_over(rt, alloc, book, workers, streams, endings);

@@ -1,7 +1,7 @@
 //! What is told of a transfer that needs a module, or a link, that a board hasn't.
 
-use crate::lines::{entry_line, line_at, number_at};
 use crate::context::{Note, TextLine};
+use crate::lines::{entry_line, line_at, number_at};
 use board_wiring::{WiredModule, read_wiring};
 use refusals::Refusal;
 use std::fmt::{self, Formatter, Write};

@@ -1,9 +1,9 @@
 //! The first thing by which a line differs from what is wanted there.
 
+use crate::expected::Expected;
 use crate::forms::{Token, last_stop};
 use crate::lines::{first_from, line_at, number_at};
 use crate::listed::Listing;
-use crate::expected::Expected;
 use batch::MAX_DIGITS;
 use c004_commands::PORTS;
 use crossbar::JOINED_MODULES;
@@ -20,12 +20,13 @@ const PORT_WORDS: [usize; 3] = [5, 8, 9];
 pub(crate) enum Difference {
     /// It begins a text of moves, in the place of a batch.
     Moves,
-    /// At this byte, counted from 1, it stops being of the form: what has to stand there, and what
-    /// does.
+    /// At this byte, counted from 1, it stops being of the form: what is expected there, and what
+    /// is found.
     Stops(usize, Token, Token),
     /// It is that of a module of this number, which no board has.
     NoModule(usize),
-    /// It is that of a module of this number, which isn't above that of the line before, the second.
+    /// It is that of a module of this number, which isn't above that of the line before, the
+    /// second.
     Falls(usize, usize),
     /// It has a link of this number, which no switch has.
     NoPort(usize),

@@ -1,10 +1,10 @@
 //! What may stand in a line.
 
+use crate::context::OpeningRack;
 use crate::forms::write_forms;
 use crate::lines::{announced, line_at};
 use crate::listed::Listing;
 use crate::quote::Quote;
-use crate::context::OpeningRack;
 use batch::MAX_MODULES;
 use c004_commands::PORTS;
 use crossbar::JOINED_MODULES;
@@ -17,13 +17,19 @@ const _: () = prove!(MAX_SESSIONS == 16);
 
 /// The first line of a record, and what goes on after it.
 const RECORD_HEAD: &str =
-    "\"record-2 MxKxW SUM N\", where MxKxW is its shape, SUM the sum of its image, of eight digits, and N, at most 16, counts the lines \"client NAME\" after it, and then \"=SUM\", the sum of these lines";
+    "\"record-2 MxKxW SUM N\", where MxKxW is its shape, SUM the sum of its image, of eight \
+    digits, and N, at most 16, counts the lines \"client NAME\" after it, and then \"=SUM\", the \
+    sum of these lines";
 
 /// The call of an entry of a record, what names in calls stand for, and how lines are written.
 const CALL: &str =
-    "\"S CALL\", where S is the number of a session, below the number of clients if the head names any, CALL is \"batch N\" and the batch's lines, \"fetch ID\", \"settle ID\", \"run ID\", \"show ID\", \"drop ID\", \"peek M A\" or \"poke M A D\", ID is the number of a batch, M a module, A an address and D a word, of eight digits 0 to 9 and a to f each: small letters, single spaces, numbers of at most nine digits and no leading zero, a line feed at its end";
+    "\"S CALL\", where S is the number of a session, below the number of clients if the head names \
+    any, CALL is \"batch N\" and the batch's lines, \"fetch ID\", \"settle ID\", \"run ID\", \
+    \"show ID\", \"drop ID\", \"peek M A\" or \"poke M A D\", ID is the number of a batch, M a \
+    module, A an address and D a word, of eight digits 0 to 9 and a to f each: small letters, \
+    single spaces, numbers of at most nine digits and no leading zero, a line feed at its end";
 
-/// What is wanted in a line.
+/// What is expected in a line.
 #[derive(Clone, Copy)]
 pub(crate) enum Expected<'a> {
     /// The first line of a text that lists these.
@@ -55,7 +61,7 @@ pub(crate) enum Expected<'a> {
 }
 
 impl<'a> Expected<'a> {
-    /// What is wanted in the line of this number, counted from 1.
+    /// What is expected in the line of this number, counted from 1.
     pub(crate) fn at(listing: Listing, text: &[u8], number: usize) -> Expected<'a> {
         let after = number.saturating_sub(announced(text).saturating_add(1));
         let last = line_at(text, number.saturating_sub(1));
@@ -82,29 +88,34 @@ impl<'a> Expected<'a> {
             Expected::Entry(Listing::Settings) =>
                 "`setting T U ..`, where T, U .. are transfers, or `setting` alone",
             Expected::Entry(Listing::Modules) =>
-                "`module M link 0 at_A link 3 at_B`, where M rises from line to line up to 15, A and B are 0 to 31, each used once, and \"none\" may replace \"at A\" or \"at B\"",
+                "`module M link 0 at_A link 3 at_B`, where M rises from line to line up to 15, A \
+                and B are 0 to 31, each used once, and \"none\" may replace \"at A\" or \"at B\"",
             Expected::BusiestLink =>
                 "`busiest link E module M`, where E is 0 or 3 and M 0 to 31, or `busiest none`",
             Expected::Named => "`named T U ..`, where T, U .. are transfers, one at least",
             Expected::Sent =>
-                "`batch N` and the batch's lines, `plan ID`, `run ID`, `show ID`, `drop ID`, `peek M A`, `poke M A D`, `progress` or `bye`",
+                "`batch N` and the batch's lines, `plan ID`, `run ID`, `show ID`, `drop ID`, `peek \
+                M A`, `poke M A D`, `progress` or `bye`",
             Expected::End => "the end of the text",
             Expected::RecordHead => RECORD_HEAD,
-            Expected::Client => "\"client NAME\", where NAME isn't empty and no client above has it",
+            Expected::Client => "\"client NAME\", where NAME isn't empty and no client above has \
+                it",
             Expected::HeadSum => "\"=SUM\", the sum of the lines above it",
-            Expected::HeadLine(..) | Expected::Sum(_) | Expected::Call(_) | Expected::Reply(..) => "",
+            Expected::HeadLine(..) | Expected::Sum(_) => "",
+            Expected::Call(_) | Expected::Reply(..) => "",
         }
     }
 }
 
-/// What is wanted. Names in the lines of a session aren't explained.
+/// What is expected. Names in the lines of a session aren't explained.
 impl<'a> Display for Expected<'a> {
     #[rattlefmt::skip]
     fn fmt<W: Write>(&self, f: &mut Formatter<W>) -> fmt::Result {
         match *self {
             Expected::HeadLine(_, due) => due.fmt(f),
             Expected::Sum(e) => write!(f,
-                "the start of entry {e}, or of the end, with a right sum: a byte was changed, or lines were left out, added or moved"),
+                "the start of entry {e}, or of the end, with a right sum: a byte was changed, or \
+                lines were left out, added or moved"),
             Expected::Call(e) => write!(f, "the call of entry {e}, {CALL}"),
             Expected::Reply(e, due) => write!(f, "the reply of entry {e}, {due}"),
             _ => write_forms(f, self.forms()),

@@ -9,7 +9,7 @@ use crate::quote::Quote;
 use batch::number_from_digits;
 use std::fmt::{self, Display, Formatter, Write};
 
-/// What has to stand at a byte of a line, or stands there.
+/// A token: what is expected at a byte of a line, or found there.
 #[derive(Clone, Copy)]
 pub(crate) enum Token {
     /// This byte.
@@ -54,7 +54,8 @@ impl Display for Token {
     }
 }
 
-/// Where a line stops being of a form: what has to stand there, and what does from there on.
+/// Where a line stops being of a form: the token that is expected there, and what is found from
+/// there on.
 pub(crate) type FormMismatch<'a> = (Token, &'a [u8]);
 
 /// What stands after these words, where a line begins with them.

@@ -13,7 +13,9 @@
 #![tactic(auto)]
 
 mod boards;
+mod context;
 mod differences;
+mod expected;
 mod forms;
 mod line_note;
 mod lines;
@@ -23,9 +25,7 @@ mod recorded;
 mod schedules;
 mod second;
 mod sentences;
-mod context;
-mod expected;
 
+pub use context::{NamedText, OpeningRack, RefusalContext};
 pub use listed::Listing;
 pub use second::{file_line, second_line, session_line};
-pub use context::{NamedText, OpeningRack, RefusalContext};

@@ -1,10 +1,10 @@
 //! What is told of a line that was refused.
 
+use crate::context::{NamedText, OpeningRack, TextLine};
 use crate::differences::Difference;
+use crate::expected::Expected;
 use crate::lines::{line_at, piece};
 use crate::quote::Quote;
-use crate::context::{NamedText, OpeningRack, TextLine};
-use crate::expected::Expected;
 use std::fmt::{self, Display, Formatter, Write};
 
 /// A line that was refused.
@@ -36,11 +36,14 @@ impl<'a> Display for LineNote<'a> {
             Expected::End => return f.write_str(" comes after the last line; nothing may follow"),
             Expected::RecordHead => " doesn't begin a record of this rack; expected ",
             Expected::HeadLine(OpeningRack::Resumed, due) => return write!(f,
-                "; this command's record has {due} there: --resume takes the record's shape, words and clients, in its order"),
+                "; this command's record has {due} there: --resume takes the record's shape, words \
+                and clients, in its order"),
             Expected::HeadLine(OpeningRack::Zeros, due) => return write!(f,
-                "; this command's rack, whose words are 0, has {due} there: --image takes the record's words, and --shape its shape"),
+                "; this command's rack, whose words are 0, has {due} there: --image takes the \
+                record's words, and --shape its shape"),
             Expected::HeadLine(OpeningRack::Image, due) => return write!(f,
-                "; this command's rack, with the words of --image, has {due} there: --image takes the record's words, and --shape its shape"),
+                "; this command's rack, with the words of --image, has {due} there: --image takes \
+                the record's words, and --shape its shape"),
             wanted => match Difference::of(self.named.text, self.number, wanted) {
                 Some(difference) => {
                     write!(f, ": {difference}")?;

@@ -1,10 +1,10 @@
 //! The line in which a record is wrong.
 
+use crate::context::{Note, RefusalContext};
+use crate::expected::Expected;
 use crate::line_note::LineNote;
 use crate::lines::{line_after, line_at, number_at, piece};
 use crate::quote::Quote;
-use crate::context::{Note, RefusalContext};
-use crate::expected::Expected;
 use batch::{Batch, BatchFault, Shape, number_before};
 use exchange_limits::MAX_SESSIONS;
 use line_words::{hex8_and_rest, rest_after};

@@ -1,7 +1,7 @@
 //! What is told of a schedule that the checker refuses.
 
-use crate::lines::{announced, entry_line};
 use crate::context::{NamedText, Note, Numbered, TextLine};
+use crate::lines::{announced, entry_line};
 use batch::{Batch, BatchFault, Shape};
 use link_graph::{Certificate, CheckFault, End, Link, Schedule, check_schedule};
 use refusals::{Refusal, Validity};

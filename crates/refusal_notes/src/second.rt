@@ -3,9 +3,9 @@
 ghost use Rattle.std.specs.Prelude.{◌≢◌, IfSome, string_bytes};
 ghost use Rattle.refusal_notes.specs.Told.{IsWholeLine};
 
+use crate::context::{NamedText, Note, RefusalContext};
 use crate::recorded::note_of_call;
 use crate::schedules::refusal_of_settings;
-use crate::context::{NamedText, Note, RefusalContext};
 use batch::Shape;
 use refusals::{Refusal, Validity};
 use std::alloc::Global;

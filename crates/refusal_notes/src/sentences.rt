@@ -1,14 +1,14 @@
 //! The sentences that are told of refusals.
 
+use crate::context::{Many, NamedText, Note, Numbered, TextLine};
 use crate::differences::Difference;
+use crate::expected::Expected;
 use crate::line_note::LineNote;
 use crate::lines::{announced, entry_line, first_from, line_at};
 use crate::listed::{Listing, is_listed, listed};
 use crate::quote::Quote;
 use crate::recorded::{line_of_head, line_wanting};
 use crate::schedules::ScheduleNote;
-use crate::context::{Many, NamedText, Note, Numbered, TextLine};
-use crate::expected::Expected;
 use batch::{MAX_BLOCKS, MAX_MODULES, MAX_TRANSFERS, MAX_WORDS};
 use module_memory::{MemoryFault, WINDOW_START, WORD_BYTES};
 use refusals::{Refusal, Validity};
@@ -40,7 +40,8 @@ impl<'a> Display for Note<'a> {
                 "{} isn't \"MxKxW\": 1 to 32 modules, 1 to 64 blocks each, 1 to 256 words each",
                 Quote(self.texts.shape.as_bytes())),
             Refusal::Settings => return write!(f,
-                "{} isn't \"A..B\": two settings, counted from 0, of which the second isn't below the first",
+                "{} isn't \"A..B\": two settings, counted from 0, of which the second isn't below \
+                the first",
                 Quote(self.texts.range.as_bytes())),
             Refusal::NoSetting(k) => return self.write_no_setting(f, k),
             Refusal::Image { is, wanted } => return write!(f,
@@ -75,18 +76,22 @@ impl<'a> Display for Note<'a> {
                 "{} names a module that the rack doesn't have; it has {}", self.sent(),
                 Numbered(self.texts.rack().modules(), "module")),
             Refusal::Memory(MemoryFault::Misaligned) =>
-                "names an address that isn't a multiple of four; its last digit has to be 0, 4, 8 or c",
+                "names an address that isn't a multiple of four; its last digit has to be 0, 4, 8 \
+                or c",
             Refusal::Memory(MemoryFault::Outside) => return self.write_outside(f),
             Refusal::Unknown =>
-                "names no batch of this session; \"accepted ID\" gives the ID of each that it hands in",
+                "names no batch of this session; \"accepted ID\" gives the ID of each that it \
+                hands in",
             Refusal::Unplanned => "names a batch that has no plan yet; send \"plan ID\" first",
             Refusal::Already =>
                 "names a batch that was already planned or run; hand it in again to run it again",
             Refusal::Stranger => "was given the plan of another batch; send it again",
             Refusal::BookFull =>
-                "is one batch too many for the exchange; send \"drop ID\" for one that isn't needed",
+                "is one batch too many for the exchange; send \"drop ID\" for one that isn't \
+                needed",
             Refusal::HistoryFull =>
-                "is one call too many for the exchange; end the session, and start the program anew",
+                "is one call too many for the exchange; end the session, and start the program \
+                anew",
             Refusal::Line => return self.write_no_command(f),
             Refusal::RecordHead => return line_of_head(&self.texts).fmt(f),
             Refusal::RecordSum(e) => return line_wanting(&self.texts, Expected::Sum(e)).fmt(f),
@@ -217,7 +222,8 @@ impl<'a> Note<'a> {
         let words = (self.texts.rack().blocks() * self.texts.rack().words()) as u32;
         let last = WINDOW_START + WORD_BYTES * (words - 1);
         write!(f,
-            "{} names an address where there is no word; a module has its words at 80000800 to {last:08x}",
+            "{} names an address where there is no word; a module has its words at 80000800 to \
+            {last:08x}",
             self.sent())
     }
 

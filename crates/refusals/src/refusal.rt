@@ -1,5 +1,6 @@
 ghost use Rattle.std.specs.Prelude.{◌≡◌, ◌≤◌, ◌+◌, ◌++◌, length};
-ghost use Rattle.refusals.specs.Refusals.{link_words, memory_words, port_words, refusal_line, refusal_words, two_numbers};
+ghost use Rattle.refusals.specs.Refusals.{link_words, memory_words, port_words, refusal_line};
+ghost use Rattle.refusals.specs.Refusals.{refusal_words, two_numbers};
 
 use batch::{BatchFault, ShapeFault};
 use line_words::{LINE_ROOM, Line};
@@ -24,8 +25,8 @@ pub enum Refusal {
     TooMany,
     /// `no module T`: this transfer names a module that the rack hasn't.
     NoModule(usize),
-    /// `no link T`: this transfer needs a link of a module that the board has, and that isn't on the
-    /// switch.
+    /// `no link T`: this transfer needs a link of a module that the board has, and that isn't on
+    /// the switch.
     NoLink(usize),
     /// `no block T`: this transfer names a block that the rack hasn't.
     NoBlock(usize),

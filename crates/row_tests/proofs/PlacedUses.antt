@@ -25,8 +25,13 @@ with_false : (b : Bool) → cond {A = ℕ} (b && false) 1 0 ≡ 0
 with_false true = refl
 with_false false = refl
 
-first : (x : Transfer) (rest : List Transfer) (link : Link) (b : Bool) → uses ((if b then x ∷ [] else []) ++ rest) link ≡ cond ((module_at link.end x == link.«module») && b) 1 0 + uses rest link
-first x rest link true = omega (arith, sum_by-cons (λ (y : Transfer). cond (module_at link.end y == link.«module») 1 0) x rest, with_true (module_at link.end x == link.«module»))
+first : (x : Transfer) (rest : List Transfer) (link : Link) (b : Bool) → uses ((if b then x ∷ [] else []) ++ rest) link
+    ≡ cond ((module_at link.end x == link.«module») && b) 1 0 + uses rest link
+first x rest link true = omega (
+  arith,
+  sum_by-cons (λ (y : Transfer). cond (module_at link.end y == link.«module») 1 0) x rest,
+  with_true (module_at link.end x == link.«module»),
+)
 first x rest link false = omega (arith, with_false (module_at link.end x == link.«module»))
 
 pub counted : (batch : List Transfer) (colour : List (Option ℕ)) (link : Link) → placed_uses batch colour link ≡ uses (placed_transfers batch colour) link
@@ -35,7 +40,8 @@ counted [] colour link = refl
 counted (x ∷ batch) colour link =
     let test : ℕ → Bool = λ t. uses_link (x ∷ batch) link t && is_some (colour_at colour t) in
     let all = count_first (length batch) test in
-    let behind = count_below_same (length batch) (λ t. test (suc t)) (λ t. uses_link batch link t && is_some (colour_at (drop 1 colour) t)) (λ t _. ap (λ c. uses_link batch link t && is_some c) (later colour t)) in
+    let behind = count_below_same (length batch) (λ t. test (suc t)) (λ t. uses_link batch link t && is_some (colour_at (drop 1 colour) t))
+    (λ t _. ap (λ c. uses_link batch link t && is_some c) (later colour t)) in
     let rest = counted batch (drop 1 colour) link in
     let its = first x (placed_transfers batch (drop 1 colour)) link (is_some (colour_at colour 0)) in
     omega (arith, all, behind, rest, its)

@@ -4,7 +4,8 @@ use Rattle.std.specs.Prelude.{ℕ, List, [], ◌∷◌, ◌++◌, Some, None, co
 use Rattle.batch.specs.declared.transfer.Transfer.{Transfer}
 use Rattle.batch.specs.Rows.{push}
 use Rattle.link_graph.specs.Rows.{first_link}
-use Rattle.schedule_picture.specs.declared.verdict.CertificateStatus.TheVariants.{Certified, Missing}
+use Rattle.schedule_picture.specs.declared.verdict.CertificateStatus.TheVariants.{Certified}
+use Rattle.schedule_picture.specs.declared.verdict.CertificateStatus.TheVariants.{Missing}
 use Rattle.schedule_picture.specs.declared.verdict.Verdict.{Verdict}
 
 -- a shortest schedule of the batch of three transfers, with its certificate

@@ -11,7 +11,7 @@ mod euler_split_rows;
 mod exchange_limits_rows;
 mod failure_count_rows;
 mod link_bytes_rows;
-mod link_ends_rows;
+mod link_devices_rows;
 mod link_graph_rows;
 mod module_memory_rows;
 mod module_orders_rows;

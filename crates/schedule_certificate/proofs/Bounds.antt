@@ -7,7 +7,9 @@ use Rattle.schedule_certificate.specs.Reinsertions.{bound, AreFew}
 
 -- the bound at p + 2
 bound_at : (n d p : ℕ) → d ≡ p + 2 → bound n d ≡ 3 * n * p
-bound_at n d p is = rw is (elim (ltb (p + 2) 2) as (λ b. b ≡ ltb (p + 2) 2 → cond b 0 (3 * n * (p + 2 - 2)) ≡ 3 * n * p) [ true ↦ λ t. absurd (grind (arith, nat_tests)) | false ↦ λ _. ap (λ m. 3 * n * m) (omega arith) ] refl)
+bound_at n d p is =
+    rw is (elim (ltb (p + 2) 2) as (λ b. b ≡ ltb (p + 2) 2 → cond b 0 (3 * n * (p + 2 - 2)) ≡ 3 * n * p)
+    [ true ↦ λ t. absurd (grind (arith, nat_tests)) | false ↦ λ _. ap (λ m. 3 * n * m) (omega arith) ] refl)
 
 most_at : (n d p r : ℕ) → d ≡ p + 2 → AreFew n d r → 4 * (p + 2) * r ≤ 3 * n * p
 most_at n d p r is f = let b = bound_at n d p is in let m = f.most in rw (← b, ← is) m
@@ -66,9 +68,11 @@ with_class n r s p h few =
     let c : (p + 2) * (4 * (2 * p + 3) * (r + s)) ≤ (p + 2) * (3 * n * (2 * p + 1)) = omega arith in
     le_of_mul-le-mul_left c (omega arith)
 
-few_odd : (p d d₁ d₂ n₁ n₂ r₁ r₂ s : ℕ) → d ≡ 2 * p + 3 → AreFew n₁ d₁ r₁ → AreFew n₂ d₂ r₂ → (d₁ ≡ p + 1) ⊎ (d₁ ≡ p + 2) → (d₂ ≡ p + 1) ⊎ (d₂ ≡ p + 2) → (d + 1) * s ≤ n₁ + n₂ → AreFew (n₁ + n₂) d (r₁ + r₂ + s)
+few_odd : (p d d₁ d₂ n₁ n₂ r₁ r₂ s : ℕ) → d ≡ 2 * p + 3 → AreFew n₁ d₁ r₁ → AreFew n₂ d₂ r₂ → (d₁ ≡ p + 1) ⊎ (d₁ ≡ p + 2) → (d₂ ≡ p + 1) ⊎ (d₂ ≡ p + 2)
+    → (d + 1) * s ≤ n₁ + n₂ → AreFew (n₁ + n₂) d (r₁ + r₂ + s)
 few_odd p d d₁ d₂ n₁ n₂ r₁ r₂ s d_is a b e₁ e₂ few =
-    let up : (n d r : ℕ) → AreFew n d r → (d ≡ p + 1) ⊎ (d ≡ p + 2) → 4 * (p + 2) * r ≤ 3 * n * p = λ n d r f e. elim e [ inl is ↦ lift n d p r is f | inr is ↦ most_at n d p r is f ] in
+    let up : (n d r : ℕ) → AreFew n d r → (d ≡ p + 1) ⊎ (d ≡ p + 2) → 4 * (p + 2) * r ≤ 3 * n * p =
+    λ n d r f e. elim e [ inl is ↦ lift n d p r is f | inr is ↦ most_at n d p r is f ] in
     let x = up n₁ d₁ r₁ a e₁ in
     let y = up n₂ d₂ r₂ b e₂ in
     let halves : 4 * (p + 2) * (r₁ + r₂) ≤ 3 * (n₁ + n₂) * p = omega arith in
@@ -94,7 +98,8 @@ near e p low high = elim (cases_eq e (p + 1)) [ inl same ↦ inl same | inr apar
 
 -- two halves of a part of degree d, and a class of d + 1 that is put back where they have more than
 -- d colours
-pub few_halves : (d d₁ d₂ n₁ n₂ r₁ r₂ s : ℕ) → 1 < d → d ≤ d₁ + d₂ → d₁ ≤ (d + 1) / 2 → d₂ ≤ (d + 1) / 2 → AreFew n₁ d₁ r₁ → AreFew n₂ d₂ r₂ → (d + 1) * s ≤ n₁ + n₂ → (d₁ + d₂ ≤ d → s ≡ 0) → AreFew (n₁ + n₂) d (r₁ + r₂ + s)
+pub few_halves : (d d₁ d₂ n₁ n₂ r₁ r₂ s : ℕ) → 1 < d → d ≤ d₁ + d₂ → d₁ ≤ (d + 1) / 2 → d₂ ≤ (d + 1) / 2 → AreFew n₁ d₁ r₁ → AreFew n₂ d₂ r₂
+    → (d + 1) * s ≤ n₁ + n₂ → (d₁ + d₂ ≤ d → s ≡ 0) → AreFew (n₁ + n₂) d (r₁ + r₂ + s)
 few_halves d d₁ d₂ n₁ n₂ r₁ r₂ s high both a_le b_le a b few none = elim (cases_eq (d % 2) 0) [
   | inl even ↦
       let k : ℕ = d / 2 in
@@ -102,7 +107,8 @@ few_halves d d₁ d₂ n₁ n₂ r₁ r₂ s high both a_le b_le a b few none = 
       let a_is : d₁ ≡ k = omega arith in
       let b_is : d₂ ≡ k = omega arith in
       let s_is : s ≡ 0 = none (omega arith) in
-      let e : AreFew (n₁ + n₂) (2 * k) (r₁ + r₂) = few_even k n₁ n₂ r₁ r₂ (subst (λ x. AreFew n₁ x r₁) a_is a) (subst (λ x. AreFew n₂ x r₂) b_is b) (omega arith) in
+      let e : AreFew (n₁ + n₂) (2 * k) (r₁ + r₂) = few_even k n₁ n₂ r₁ r₂ (subst (λ x. AreFew n₁ x r₁) a_is a) (subst (λ x. AreFew n₂ x r₂) b_is b)
+      (omega arith) in
       few_le (n₁ + n₂) d (r₁ + r₂) (r₁ + r₂ + s) (subst (λ x. AreFew (n₁ + n₂) x (r₁ + r₂)) d_is e) (omega arith)
   | inr odd ↦
       let p : ℕ = (d - 3) / 2 in

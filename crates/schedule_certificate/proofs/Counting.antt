@@ -1,5 +1,6 @@
 -- Counts over the numbers of a part, and how many of the placed transfers use a link.
-use Rattle.std.proofs.Common.{◌≡◌, ◌==◌, ℕ, zero, suc, ◌+◌, ◌<◌, ◌≤◌, inl, inr, List, [], ◌∷◌, length, All, count_by, Option, None, is_some, Bool, true, false, not, ◌&&◌, cond, refl, sym, ap, ◌∙◌, arith}
+use Rattle.std.proofs.Common.{◌≡◌, ◌==◌, ℕ, zero, suc, ◌+◌, ◌<◌, ◌≤◌, inl, inr, List, [], ◌∷◌, length, All, count_by, Option, None, is_some, Bool, true, false, not, ◌&&◌, cond, refl, sym, ap, ◌∙◌}
+use Rattle.std.proofs.Common.{arith}
 use Rattle.std.specs.Prelude.{Contains}
 use Rattle.std.proofs.lemmas.Bool.{false≢true}
 use Rattle.std.proofs.lemmas.Bool.Decides.{eqb_tells}
@@ -61,16 +62,19 @@ remove_one (suc n) x q = elim (eqb_tells n x) [
         | inr away ↦ rw away.0 (elim (q u) as (λ b. b ≡ (b && true)) [ true ↦ refl | false ↦ refl ])
       ]) in
       let qx : q n ≡ q x = ap q same.1 in
-      rw (same.0, qx) (elim (q x) as (λ b. cond b 1 0 + count_below n q ≤ cond (b && false) 1 0 + count_below n (λ u. q u && not (u == x)) + cond b 1 0) [ true ↦ omega arith | false ↦ omega arith ])
+      rw (same.0, qx) (elim (q x) as (λ b. cond b 1 0 + count_below n q ≤ cond (b && false) 1 0 + count_below n (λ u. q u && not (u == x)) + cond b 1 0)
+      [ true ↦ omega arith | false ↦ omega arith ])
   | inr other ↦
       let rest = remove_one n x q in
-      rw other.0 (elim (q n) as (λ b. cond b 1 0 + count_below n q ≤ cond (b && true) 1 0 + count_below n (λ u. q u && not (u == x)) + cond (q x) 1 0) [ true ↦ omega arith | false ↦ omega arith ])
+      rw other.0 (elim (q n) as (λ b. cond b 1 0 + count_below n q ≤ cond (b && true) 1 0 + count_below n (λ u. q u && not (u == x)) + cond (q x) 1 0)
+      [ true ↦ omega arith | false ↦ omega arith ])
 ]
 
 -- numbers that all stand in a list are at most as many as those of the list that pass
 count_standing : (xs : List ℕ) (q : ℕ → Bool) (n : ℕ) → ((u : ℕ) → q u ≡ true → Contains xs u) → count_below n q ≤ count_by q xs
 count_standing [] q n stands =
-    let none : count_below n q ≡ 0 = count_below_none n q (λ u _. let go : (b : Bool) → q u ≡ b → q u ≡ false = λ b. elim b as (λ b. q u ≡ b → q u ≡ false) [ true ↦ λ e. absurd (omega (arith, (stands u e).1)) | false ↦ λ e. e ] in go (q u) refl) in
+    let none : count_below n q ≡ 0 = count_below_none n q (λ u _. let go : (b : Bool) → q u ≡ b → q u ≡ false = λ b. elim b as (λ b. q u ≡ b → q u ≡ false)
+    [ true ↦ λ e. absurd (omega (arith, (stands u e).1)) | false ↦ λ e. e ] in go (q u) refl) in
     omega arith
 count_standing (x ∷ xs) q n stands =
     let less : ℕ → Bool = λ u. q u && not (u == x) in
@@ -85,7 +89,8 @@ count_standing (x ∷ xs) q n stands =
 
 -- ---- the uses of a link among a part
 
-pub uses_counted : (batch : List Transfer) (link : Link) (part : List ℕ) → All (λ t. t < length batch) part → uses_among batch part link ≡ count_by (uses_link batch link) part
+pub uses_counted : (batch : List Transfer) (link : Link) (part : List ℕ) → All (λ t. t < length batch) part → uses_among batch part link
+    ≡ count_by (uses_link batch link) part
 unfolding uses_link
 uses_counted batch link [] known = refl
 uses_counted batch link (t ∷ ts) known =
@@ -94,16 +99,26 @@ uses_counted batch link (t ∷ ts) known =
     let more : members batch (t ∷ ts) ≡ x ∷ members batch ts = rw here.1 refl in
     let one : Transfer → ℕ = λ y. cond (module_at link.end y == link.«module») 1 0 in
     let same : one (transfer_at batch t) ≡ one x = ap one (get_or_from_slice_get batch t x no_transfer here.1) in
-    omega (arith, ap (λ (xs : List Transfer). uses xs link) more, sum_by-cons one x (members batch ts), sum_by-cons (λ u. one (transfer_at batch u)) t ts, same, uses_counted batch link ts (All-tail (λ u. u < length batch) t ts known))
+    omega (
+      arith,
+      ap (λ (xs : List Transfer). uses xs link) more,
+      sum_by-cons one x (members batch ts),
+      sum_by-cons (λ u. one (transfer_at batch u)) t ts,
+      same,
+      uses_counted batch link ts (All-tail (λ u. u < length batch) t ts known),
+    )
 
 -- a link of a transfer of the part that isn't placed has fewer placed transfers than uses
-pub part_room : (batch : List Transfer) (part : List ℕ) (colour : List (Option ℕ)) (t : ℕ) (link : Link) → All (λ u. u < length batch) part → ((u : ℕ) → HasColour colour u → Contains part u) → Contains part t → colour_at colour t ≡ None → Uses batch t link → placed_uses batch colour link < uses_among batch part link
+pub part_room : (batch : List Transfer) (part : List ℕ) (colour : List (Option ℕ)) (t : ℕ) (link : Link) → All (λ u. u < length batch) part
+    → ((u : ℕ) → HasColour colour u → Contains part u) → Contains part t → colour_at colour t ≡ None → Uses batch t link
+    → placed_uses batch colour link < uses_among batch part link
 unfolding placed_uses
 part_room batch part colour t link known only stands out used =
     let q : ℕ → Bool = λ u. uses_link batch link u && is_some (colour_at colour u) in
     let few = count_standing part q (length batch) (λ u h. only u (and_true (uses_link batch link u) (is_some (colour_at colour u)) h).1) in
     let off : q t ≡ false = ap (λ (o : Option ℕ). uses_link batch link t && is_some o) out ∙ and_false (uses_link batch link t) in
-    let less = count_by_lt q (uses_link batch link) t part (λ u h. (and_true (uses_link batch link u) (is_some (colour_at colour u)) h).0) off (uses_yes batch t link used) stands in
+    let less = count_by_lt q (uses_link batch link) t part (λ u h. (and_true (uses_link batch link u) (is_some (colour_at colour u)) h).0) off
+    (uses_yes batch t link used) stands in
     omega (arith, few, less, uses_counted batch link part known)
 
 -- no more transfers are placed than the part has

@@ -1,5 +1,6 @@
 -- Counting the uses of each link, one transfer after the other.
-use Rattle.std.proofs.Common.{◌≡◌, ◌≢◌, ℕ, ◌+◌, ◌<◌, ◌≤◌, inl, inr, max, List, [], ◌∷◌, ◌++◌, length, get_or, set, take, replicate, slice_get, All, Option, Some, option_map, refl, sym, ap, ◌∙◌, subst, arith}
+use Rattle.std.proofs.Common.{◌≡◌, ◌≢◌, ℕ, ◌+◌, ◌<◌, ◌≤◌, inl, inr, max, List, [], ◌∷◌, ◌++◌, length, get_or, set, take, replicate, slice_get, All, Option, Some, option_map, refl, sym, ap, ◌∙◌, subst}
+use Rattle.std.proofs.Common.{arith}
 use Rattle.std.proofs.lemmas.Bool.{cases_eq}
 use Rattle.std.proofs.lemmas.Bool.Decides.{eqb_tells}
 use Rattle.std.proofs.lemmas.Option.{same_Some}
@@ -77,7 +78,8 @@ module _ (counts : List ℕ) (xs : List Transfer) (x : Transfer) (fits : HasModu
       elim (eqb_tells x.responder k) [
         | inl same ↦
             let place : MAX_MODULES + x.responder ≡ MAX_MODULES + k = ap (λ (i : ℕ). MAX_MODULES + i) same.1 in
-            let here : get_or both (MAX_MODULES + k) 0 ≡ m = ap (λ (i : ℕ). get_or both i 0) (sym place) ∙ get_or-set_same first (MAX_MODULES + x.responder) m 0 answer_in in
+            let here : get_or both (MAX_MODULES + k) 0 ≡ m = ap (λ (i : ℕ). get_or both i 0) (sym place) ∙ get_or-set_same first (MAX_MODULES + x.responder) m 0
+            answer_in in
             let old : m ≡ get_or first (MAX_MODULES + k) 0 + 1 = ap (λ (i : ℕ). get_or first i 0 + 1) place in
             let bit : use_of (made Three k) x ≡ 1 = rw same.0 refl in
             omega (arith, kept, here, old, bit)
@@ -133,14 +135,16 @@ module _ (counts : List ℕ) (xs : List Transfer) (x : Transfer) (fits : HasModu
       }
 
   -- one more transfer, in the words of the two counts
-  count_more : (d a b : ℕ) (one two : List ℕ) → IsDegree xs d → a ≡ n → one ≡ set counts (link_index (start_link x)) a → b ≡ get_or one (link_index (answer_link x)) 0 + 1 → two ≡ set one (link_index (answer_link x)) b → AreCounted (xs ++ x ∷ []) two (max (max d a) b)
+  count_more : (d a b : ℕ) (one two : List ℕ) → IsDegree xs d → a ≡ n → one ≡ set counts (link_index (start_link x)) a → b
+      ≡ get_or one (link_index (answer_link x)) 0 + 1 → two ≡ set one (link_index (answer_link x)) b → AreCounted (xs ++ x ∷ []) two (max (max d a) b)
   count_more d a b one two degree a_is one_is b_is two_is =
       let one' : one ≡ first = one_is ∙ ap (set counts (link_index (start_link x))) a_is in
       let b' : b ≡ m = b_is ∙ ap (λ (l : List ℕ). get_or l (link_index (answer_link x)) 0 + 1) one' in
       let two' : two ≡ both = two_is ∙ (ap (λ (l : List ℕ). set l (link_index (answer_link x)) b) one' ∙ ap (set first (link_index (answer_link x))) b') in
       record {
         counts_are = subst (λ (l : List ℕ). AreCounts l (xs ++ x ∷ [])) (sym two') counted_more;
-        degree_is = subst (IsDegree (xs ++ x ∷ [])) (ap (λ (i : ℕ). max (max d i) m) (sym a_is) ∙ ap (λ (i : ℕ). max (max d a) i) (sym b')) (degree_more d degree);
+        degree_is = subst (IsDegree (xs ++ x ∷ [])) (ap (λ (i : ℕ). max (max d i) m) (sym a_is) ∙ ap (λ (i : ℕ). max (max d a) i) (sym b'))
+            (degree_more d degree);
       }
 
 -- ---- the transfers of a part, one after the other
@@ -184,11 +188,15 @@ module _ (batch : List Transfer) (part : List ℕ) (i : ℕ) (is_part : IsPart b
       module _ (a : ℕ) (one : List ℕ) (a_is : a ≡ get_or counts (link_index r.0) 0 + 1) (one_is : one ≡ set counts (link_index r.0) a) where
         pub next_low : (limit : ℕ) → MAX_TRANSFERS < limit → All (λ n. n < limit) one
         next_low limit low =
-            let inside : link_index r.0 < length counts = subst (λ (l : Link). link_index l < length counts) (sym start_is) (omega (arith, so.counts_are.places, modules.0)) in
-            let before : get_or counts (link_index r.0) 0 < MAX_TRANSFERS = All-get_or (λ n. n < MAX_TRANSFERS) counts (link_index r.0) 0 inside (room_left counts (members batch (take i part)) MAX_TRANSFERS so.counts_are so_far) in
-            subst (All (λ n. n < limit)) (sym one_is) (All-set (λ n. n < limit) counts (link_index r.0) a (omega (arith, a_is, before, low)) (counts_low limit low))
+            let inside : link_index r.0 < length counts = subst (λ (l : Link). link_index l < length counts) (sym start_is)
+            (omega (arith, so.counts_are.places, modules.0)) in
+            let before : get_or counts (link_index r.0) 0 < MAX_TRANSFERS = All-get_or (λ n. n < MAX_TRANSFERS) counts (link_index r.0) 0 inside
+            (room_left counts (members batch (take i part)) MAX_TRANSFERS so.counts_are so_far) in
+            subst (All (λ n. n < limit)) (sym one_is) (All-set (λ n. n < limit) counts (link_index r.0) a (omega (arith, a_is, before, low))
+            (counts_low limit low))
 
-        pub next_counted : (b middle top : ℕ) (two : List ℕ) → b ≡ get_or one (link_index r.1) 0 + 1 → two ≡ set one (link_index r.1) b → middle ≡ max d a → top ≡ max middle b → AreCounted (members batch (take (i + 1) part)) two top
+        pub next_counted : (b middle top : ℕ) (two : List ℕ) → b ≡ get_or one (link_index r.1) 0 + 1 → two ≡ set one (link_index r.1) b → middle ≡ max d a → top
+            ≡ max middle b → AreCounted (members batch (take (i + 1) part)) two top
         next_counted b middle top two b_is two_is middle_is top_is =
             let more : members batch (take (i + 1) part) ≡ members batch (take i part) ++ known.0 ∷ [] = some_more batch part i 0 known.0 within known.1 in
             let place : link_index r.0 ≡ link_index (start_link known.0) = ap link_index start_is in
@@ -199,4 +207,5 @@ module _ (batch : List Transfer) (part : List ℕ) (i : ℕ) (is_part : IsPart b
             (b_is ∙ ap (λ (k : ℕ). get_or one k 0 + 1) behind)
             (two_is ∙ ap (λ (k : ℕ). set one k b) behind) in
             let greatest : max (max d a) b ≡ top = ap (λ (k : ℕ). max k b) (sym middle_is) ∙ sym top_is in
-            subst (λ (xs : List Transfer). AreCounted xs two top) (sym more) (subst (AreCounted (members batch (take i part) ++ known.0 ∷ []) two) greatest result)
+            subst (λ (xs : List Transfer). AreCounted xs two top) (sym more) (subst (AreCounted (members batch (take i part) ++ known.0 ∷ []) two) greatest
+            result)

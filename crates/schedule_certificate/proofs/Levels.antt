@@ -28,7 +28,8 @@ one_at (suc k) = let p : 2 ^ suc k ≡ 2 ^ k * 2 = pow-suc 2 k in omega (arith, 
 pub leaf : (n k : ℕ) → 32 * (n * k) + 3 * n + 4 * LINKS * 2 ^ k ≤ colouring_steps n k
 leaf n k = omega (arith, closed k, wide k)
 
-pub level : (l r d k own s t : ℕ) → d ≤ 2 ^ suc k → own ≤ 32 * (l + r) + 7 * MAX_MODULES * (d + 1) + 2 * MAX_MODULES → t ≤ s + own + colouring_steps l k + colouring_steps r k → t ≤ s + colouring_steps (l + r) (suc k)
+pub level : (l r d k own s t : ℕ) → d ≤ 2 ^ suc k → own ≤ 32 * (l + r) + 7 * MAX_MODULES * (d + 1) + 2 * MAX_MODULES → t ≤ s + own + colouring_steps l k +
+    colouring_steps r k → t ≤ s + colouring_steps (l + r) (suc k)
 level l r d k own s t low few took =
     let n : nodes (suc k) ≡ 2 * nodes k + 2 ^ suc k + 1 = refl in
     omega (arith, low, few, took, n, closed k, closed (suc k), one_at (suc k), mul-suc (l + r) k, add-mul l r k)

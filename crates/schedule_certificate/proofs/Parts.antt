@@ -1,5 +1,6 @@
 -- The halves of a part, and how its colouring comes from theirs.
-use Rattle.std.proofs.Common.{◌≡◌, ◌==◌, ℕ, zero, suc, ◌+◌, ◌-◌, ◌*◌, ◌/◌, ◌^◌, ◌<◌, ◌≤◌, ◌⊎◌, ◌↔◌, inl, inr, List, ◌++◌, length, map, take, drop, All, Option, Some, None, IsSome, Result, Ok, Err, IfOk, get_or, cond, refl, sym, ap, ◌∙◌, subst, arith}
+use Rattle.std.proofs.Common.{◌≡◌, ◌==◌, ℕ, zero, suc, ◌+◌, ◌-◌, ◌*◌, ◌/◌, ◌^◌, ◌<◌, ◌≤◌, ◌⊎◌, ◌↔◌, inl, inr, List, ◌++◌, length, map, take, drop, All, Option, Some, None, IsSome, Result, Ok, Err}
+use Rattle.std.proofs.Common.{IfOk, get_or, cond, refl, sym, ap, ◌∙◌, subst, arith}
 use Rattle.std.specs.Prelude.{Contains}
 use Rattle.std.proofs.lemmas.Bool.{false≢true}
 use Rattle.std.proofs.lemmas.Bool.Decides.{eqb_tells}
@@ -38,13 +39,15 @@ use Rattle.schedule_certificate.proofs.Levels.{class_steps, half_fits, level}
 -- ---- a part of degree 0 or 1
 
 pub single_matching : (batch : List Transfer) (part : List ℕ) (d : ℕ) → IsDegree (members batch part) d → d ≤ 1 → IsMatching batch part
-single_matching batch part d degree low = matching_from_none_shared batch part (λ link shared. omega (arith, count_from_shared batch part link shared, degree.most link))
+single_matching batch part d degree low = matching_from_none_shared batch part
+    (λ link shared. omega (arith, count_from_shared batch part link shared, degree.most link))
 
 -- ---- the halves
 
 same_degree : (batch : List Transfer) (whole : List ℕ) (d e : ℕ) → IsDegree (members batch whole) d → IsDegree (members batch whole) e → d ≡ e
 same_degree batch whole d e one other =
-    let low : (a b : ℕ) → IsDegree (members batch whole) a → IsDegree (members batch whole) b → a ≤ b = λ a b x y. elim x.reached [ inl none ↦ omega arith | inr at ↦ omega (arith, at.1, y.most at.0) ] in
+    let low : (a b : ℕ) → IsDegree (members batch whole) a → IsDegree (members batch whole) b → a ≤ b =
+    λ a b x y. elim x.reached [ inl none ↦ omega arith | inr at ↦ omega (arith, at.1, y.most at.0) ] in
     omega (arith, low d e one other, low e d other one)
 
 -- halves of each link's uses are halves of the degree
@@ -56,11 +59,28 @@ halves_of_split batch whole left right s = record {
 }
 
 -- and so are the front and the back of a part whose degree is its length
-pub halves_in_order : (batch : List Transfer) (whole : List ℕ) (d k : ℕ) → IsDegree (members batch whole) d → d ≡ length whole → k ≡ (d + 1) / 2 → AreHalves batch whole (take k whole) (drop k whole)
+pub halves_in_order : (batch : List Transfer) (whole : List ℕ) (d k : ℕ) → IsDegree (members batch whole) d → d ≡ length whole → k ≡ (d + 1) / 2
+    → AreHalves batch whole (take k whole) (drop k whole)
 halves_in_order batch whole d k degree all is = record {
   parts = rw take-append-drop (IsPermutation-refl whole);
-  left_uses = λ link e other. omega (arith, is, all, same_degree batch whole d e degree other, uses_few (members batch (take k whole)) link, members_few batch (take k whole), length-take k whole);
-  right_uses = λ link e other. omega (arith, is, all, same_degree batch whole d e degree other, uses_few (members batch (drop k whole)) link, members_few batch (drop k whole), length-drop k whole);
+  left_uses = λ link e other. omega (
+    arith,
+    is,
+    all,
+    same_degree batch whole d e degree other,
+    uses_few (members batch (take k whole)) link,
+    members_few batch (take k whole),
+    length-take k whole,
+  );
+  right_uses = λ link e other. omega (
+    arith,
+    is,
+    all,
+    same_degree batch whole d e degree other,
+    uses_few (members batch (drop k whole)) link,
+    members_few batch (drop k whole),
+    length-drop k whole,
+  );
 }
 
 one_of : (a b : ℕ) → 0 < a + b → (0 < a) ⊎ (0 < b)
@@ -68,12 +88,18 @@ one_of zero b h = inr (omega arith)
 one_of (suc a) b h = inl (omega arith)
 
 -- halves that were cut at a place
-pub cut : (batch : List Transfer) (whole now front back : List ℕ) (k : ℕ) → front ≡ take k now → back ≡ drop k now → AreHalves batch whole (take k now) (drop k now) → AreHalves batch whole front back
+pub cut : (batch : List Transfer) (whole now front back : List ℕ) (k : ℕ) → front ≡ take k now → back ≡ drop k now → AreHalves batch whole (take k now)
+    (drop k now) → AreHalves batch whole front back
 cut batch whole now front back k first rest halves = rw (first, rest) halves
 
 module _ (batch : List Transfer) (whole left right : List ℕ) (part : IsPart batch whole) (s : AreHalves batch whole left right) where
   both_standings : (t : ℕ) → standings t left + standings t right ≡ standings t whole
-  both_standings t = omega (arith, sum_by-append (λ u. cond (u == t) 1 0) left right, sum_by-IsPermutation (λ u. cond (u == t) 1 0) whole (left ++ right) s.parts)
+  both_standings t = omega (
+    arith,
+    sum_by-append (λ u. cond (u == t) 1 0) left right,
+    sum_by-IsPermutation (λ u. cond (u == t) 1 0) whole (left ++ right)
+        s.parts,
+  )
 
   both_known : All (λ t. t < length batch) (left ++ right)
   both_known = All-permutation (λ t. t < length batch) whole (left ++ right) s.parts part.known
@@ -94,14 +120,24 @@ module _ (batch : List Transfer) (whole left right : List ℕ) (part : IsPart ba
   both_lengths = omega (arith, length-append left right, length_permutation whole (left ++ right) s.parts)
 
   -- the steps of the whole are its own, and those of its halves
-  pub both_steps : (d k : ℕ) (half : KnownDegree) (own s t : ℕ) → 1 < d → IsHalf d half → d ≤ 2 ^ k → own ≤ 32 * length whole + 7 * MAX_MODULES * (d + 1) + 2 * MAX_MODULES → ((j : ℕ) → at_most half ≤ 2 ^ j → t ≤ s + own + colouring_steps (length left) j + colouring_steps (length right) j) → t ≤ s + colouring_steps (length whole) k
+  pub both_steps : (d k : ℕ) (half : KnownDegree) (own s t : ℕ) → 1 < d → IsHalf d half → d ≤ 2 ^ k → own ≤ 32 * length whole + 7 * MAX_MODULES * (d + 1) + 2 *
+      MAX_MODULES → ((j : ℕ) → at_most half ≤ 2 ^ j → t ≤ s + own + colouring_steps (length left) j + colouring_steps (length right) j)
+      → t ≤ s + colouring_steps (length whole) k
   both_steps d zero half own s t high is low few took = absurd (omega arith)
-  both_steps d (suc k) half own s t high is low few took = rw both_lengths at (level (length left) (length right) d k own s t low (omega (arith, few, both_lengths)) (took k (half_fits d k half is low)))
+  both_steps d (suc k) half own s t high is low few took = rw both_lengths
+      at (level (length left) (length right) d k own s t low (omega (arith, few, both_lengths)) (took k (half_fits d k half is low)))
 
   both_uses : (link : Link) → uses_among batch left link + uses_among batch right link ≡ uses_among batch whole link
   both_uses link =
       let bit : ℕ → ℕ = λ u. cond (uses_link batch link u) 1 0 in
-      omega (arith, uses_counted batch link left left_part.known, uses_counted batch link right right_part.known, uses_counted batch link whole part.known, sum_by-append bit left right, sum_by-IsPermutation bit whole (left ++ right) s.parts)
+      omega (
+        arith,
+        uses_counted batch link left left_part.known,
+        uses_counted batch link right right_part.known,
+        uses_counted batch link whole part.known,
+        sum_by-append bit left right,
+        sum_by-IsPermutation bit whole (left ++ right) s.parts,
+      )
 
   -- both halves of a part of degree 2 or more have something
   pub both_less : (d : ℕ) → IsDegree (members batch whole) d → 1 < d → (length left < length whole) × (length right < length whole)
@@ -109,8 +145,10 @@ module _ (batch : List Transfer) (whole left right : List ℕ) (part : IsPart ba
     | inl none ↦ absurd (omega arith)
     | inr at ↦
         let in_left : 0 < uses_among batch left at.0 = omega (arith, at.1, both_uses at.0, s.right_uses at.0 d degree) in
-        let in_right : 0 < uses_among batch right at.0 = omega (arith, at.1, both_uses at.0, s.left_uses at.0 d degree) in
-        (omega (arith, in_right, uses_few (members batch right) at.0, members_few batch right, both_lengths), omega (arith, in_left, uses_few (members batch left) at.0, members_few batch left, both_lengths))
+        let in_right : 0 < uses_among batch right at.0 = omega (arith, at.1, both_uses at.0, s.left_uses at.0 d degree) in (
+          omega (arith, in_right, uses_few (members batch right) at.0, members_few batch right, both_lengths),
+          omega (arith, in_left, uses_few (members batch left) at.0, members_few batch left, both_lengths),
+        )
   ]
 
   -- the halves of a part of even degree have half of it
@@ -118,15 +156,24 @@ module _ (batch : List Transfer) (whole left right : List ℕ) (part : IsPart ba
   half_degrees d h degree is = (
     record {
       most = λ link. omega (arith, s.left_uses link d degree, degree.most link);
-      reached = elim degree.reached [ inl none ↦ inl (omega (arith, none)) | inr at ↦ inr (at.0, omega (arith, at.1, both_uses at.0, s.left_uses at.0 d degree, s.right_uses at.0 d degree)) ];
+      reached = elim degree.reached [
+        | inl none ↦ inl (omega (arith, none))
+        | inr at ↦
+            inr (at.0, omega (arith, at.1, both_uses at.0, s.left_uses at.0 d degree, s.right_uses at.0 d degree))
+      ];
     },
     record {
       most = λ link. omega (arith, s.right_uses link d degree, degree.most link);
-      reached = elim degree.reached [ inl none ↦ inl (omega (arith, none)) | inr at ↦ inr (at.0, omega (arith, at.1, both_uses at.0, s.left_uses at.0 d degree, s.right_uses at.0 d degree)) ];
+      reached = elim degree.reached [
+        | inl none ↦ inl (omega (arith, none))
+        | inr at ↦
+            inr (at.0, omega (arith, at.1, both_uses at.0, s.left_uses at.0 d degree, s.right_uses at.0 d degree))
+      ];
     },
   )
 
-  pub known_halves : (d : ℕ) (half : KnownDegree) → IsDegree (members batch whole) d → IsHalf d half → IsDegreeKnown (members batch left) half × IsDegreeKnown (members batch right) half
+  pub known_halves : (d : ℕ) (half : KnownDegree) → IsDegree (members batch whole) d → IsHalf d half → IsDegreeKnown (members batch left) half
+      × IsDegreeKnown (members batch right) half
   known_halves d (Is h) degree is = half_degrees d h degree is
   known_halves d (AtMost h) degree is = (λ link. rw is (s.left_uses link d degree), λ link. rw is (s.right_uses link d degree))
 
@@ -137,12 +184,20 @@ module _ (batch : List Transfer) (whole left right : List ℕ) (part : IsPart ba
   from_left t stands = Contains-permutation (left ++ right) whole t (IsPermutation-sym whole (left ++ right) s.parts) (Contains-append_left left right t stands)
 
   from_right : (t : ℕ) → Contains right t → Contains whole t
-  from_right t stands = Contains-permutation (left ++ right) whole t (IsPermutation-sym whole (left ++ right) s.parts) (Contains-append_right left right t stands)
+  from_right t stands = Contains-permutation (left ++ right) whole t (IsPermutation-sym whole (left ++ right) s.parts)
+      (Contains-append_right left right t stands)
 
   not_in_both : (t : ℕ) → Contains left t → Contains right t → ⊥
-  not_in_both t in_left in_right = omega (arith, once_from_distinct t left left_part.distinct in_left, once_from_distinct t right right_part.distinct in_right, both_standings t, at_most_once whole t part.distinct)
+  not_in_both t in_left in_right = omega (
+    arith,
+    once_from_distinct t left left_part.distinct in_left,
+    once_from_distinct t right right_part.distinct in_right,
+    both_standings t,
+    at_most_once whole t part.distinct,
+  )
 
-half_degree : (batch : List Transfer) (whole half : List ℕ) (d e : ℕ) → IsDegree (members batch whole) d → IsDegree (members batch half) e → ((link : Link) → uses_among batch half link ≤ (d + 1) / 2) → e ≤ (d + 1) / 2
+half_degree : (batch : List Transfer) (whole half : List ℕ) (d e : ℕ) → IsDegree (members batch whole) d → IsDegree (members batch half) e
+    → ((link : Link) → uses_among batch half link ≤ (d + 1) / 2) → e ≤ (d + 1) / 2
 half_degree batch whole half d e degree here less = elim here.reached [
   | inl none ↦ omega arith
   | inr at ↦ omega (arith, at.1, less at.0, degree.most at.0)
@@ -166,9 +221,11 @@ module _ (batch : List Transfer) (whole left right : List ℕ) (x : AreHalvesOfT
   pub right_matching : IsMatching batch right
   right_matching = one_use right (λ link. x.halves.right_uses link 2 x.is_degree)
 
-  module _ (one : Colouring) (batch_is : one.batch ≡ batch) (colours_is : one.colours ≡ 1) (placed : PlacesOnly one.colour left) (inserted_is : one.inserted ≡ 0) where
+  module _ (one : Colouring) (batch_is : one.batch ≡ batch) (colours_is : one.colours ≡ 1) (placed : PlacesOnly one.colour left)
+      (inserted_is : one.inserted ≡ 0) where
     pub right_out : All (λ t. colour_at one.colour t ≡ None) right
-    right_out i d i_in = nothing_if (colour_at one.colour (get_or right i d)) (λ some. not_in_both batch whole left right x.is_part x.halves (get_or right i d) ((placed (get_or right i d)).0 some) (i, i_in, get_or_default right i (get_or right i d) d i_in))
+    right_out i d i_in = nothing_if (colour_at one.colour (get_or right i d)) (λ some. not_in_both batch whole left right x.is_part x.halves (get_or right i d)
+        ((placed (get_or right i d)).0 some) (i, i_in, get_or_default right i (get_or right i d) d i_in))
 
     pub two_coloured : (two : Colouring) → HasClassMore one right two → IsColouredPart batch whole two
     two_coloured two more = record {
@@ -188,7 +245,12 @@ module _ (batch : List Transfer) (whole left right : List ℕ) (x : AreHalvesOfT
           | inr b ↦ subst IsSome (sym (more.given t b)) refl
         ],
       );
-      few = record { most = omega (arith, more.inserted, inserted_is); none_at_zero = λ _. more.inserted ∙ inserted_is; none_at_powers = λ j _. more.inserted ∙ inserted_is };
+      few = record {
+        most = omega (arith, more.inserted, inserted_is);
+        none_at_zero = λ _. more.inserted ∙ inserted_is;
+        none_at_powers = λ j _. more.inserted
+            ∙ inserted_is;
+      };
     }
 
     pub two_coloured_if : {E : Type 0} (r : Result Colouring E) → IfOk r (HasClassMore one right) → IfOk r (IsColouredPart batch whole)
@@ -234,7 +296,8 @@ had_colour c (Some d) h = elim (eqb_tells d c) [
 
 -- ---- from the tables of the halves to that of the whole
 
-module _ (batch : List Transfer) (whole left right : List ℕ) (d : ℕ) (t₁ t₂ : Colouring) (part : IsPart batch whole) (degree : IsDegree (members batch whole) d) (high : 1 < d) (s : AreHalves batch whole left right) (c₁ : IsColouredPart batch left t₁) (c₂ : IsColouredPart batch right t₂) where
+module _ (batch : List Transfer) (whole left right : List ℕ) (d : ℕ) (t₁ t₂ : Colouring) (part : IsPart batch whole) (degree : IsDegree (members batch whole) d)
+    (high : 1 < d) (s : AreHalves batch whole left right) (c₁ : IsColouredPart batch left t₁) (c₂ : IsColouredPart batch right t₂) where
   pub apart : ArePlacedApart t₁.colour t₂.colour
   apart t one other = not_in_both batch whole left right part s t ((c₁.placed t).0 one) ((c₂.placed t).0 other)
 
@@ -256,10 +319,13 @@ module _ (batch : List Transfer) (whole left right : List ℕ) (d : ℕ) (t₁ t
   few_with : (x r : ℕ) → (d + 1) * x ≤ length whole → (c₁.degree + c₂.degree ≤ d → x ≡ 0) → r ≤ t₁.inserted + t₂.inserted + x → AreFew (length whole) d r
   few_with x r class none le =
       let n = both_lengths batch whole left right part s in
-      let f = few_halves d c₁.degree c₂.degree (length left) (length right) t₁.inserted t₂.inserted x high both_degrees left_degree right_degree c₁.few c₂.few (omega (arith, n)) none in
+      let f = few_halves d c₁.degree c₂.degree (length left) (length right) t₁.inserted t₂.inserted x high both_degrees left_degree right_degree c₁.few c₂.few
+      (omega (arith, n)) none in
       few_le (length whole) d (t₁.inserted + t₂.inserted + x) r (subst (λ (m : ℕ). AreFew m d (t₁.inserted + t₂.inserted + x)) n f) le
 
-  module _ (joined : Colouring) (batch_is : joined.batch ≡ t₁.batch) (colours : joined.colours ≡ t₁.colours + t₂.colours) (classes : (t : ℕ) → colour_at joined.colour t ≡ joined_colour t₁.colours (colour_at t₁.colour t) (colour_at t₂.colour t)) (inserted : joined.inserted ≤ t₁.inserted + t₂.inserted) where
+  module _ (joined : Colouring) (batch_is : joined.batch ≡ t₁.batch) (colours : joined.colours ≡ t₁.colours + t₂.colours)
+      (classes : (t : ℕ) → colour_at joined.colour t ≡ joined_colour t₁.colours (colour_at t₁.colour t) (colour_at t₂.colour t))
+      (inserted : joined.inserted ≤ t₁.inserted + t₂.inserted) where
     all_placed : (t : ℕ) → HasColour joined.colour t ↔ Contains whole t
     all_placed t = (
       λ some. elim (either_placed t₁.colours (colour_at t₁.colour t) (colour_at t₂.colour t) (subst IsSome (classes t) some)) [
@@ -330,12 +396,16 @@ module _ (batch : List Transfer) (whole left right : List ℕ) (d : ℕ) (t₁ t
           let turned : length class * joined.colours ≡ (d + 1) * length class = ap (λ c. length class * c) cols ∙ mul_comm (length class) (d + 1) in
           omega (arith, turned, taken.few, placed_few whole joined.colour (λ u some. (all_placed u).0 some))
 
-      pub put_back_steps : (s₀ s₁ s₂ s₃ : ℕ) → s₁ ≤ s₀ + (t₁.colours + t₂.colours) * LINKS → s₂ ≤ s₁ + 5 * MAX_MODULES * joined.colours + MAX_MODULES → s₃ ≤ s₂ + length class * (3 * table.colours + 2 * MAX_MODULES + 1) → s₃ ≤ s₀ + 25 * length whole + 7 * MAX_MODULES * (d + 1) + MAX_MODULES
+      pub put_back_steps : (s₀ s₁ s₂ s₃ : ℕ) → s₁ ≤ s₀ + (t₁.colours + t₂.colours) * LINKS → s₂ ≤ s₁ + 5 * MAX_MODULES * joined.colours + MAX_MODULES
+          → s₃ ≤ s₂ + length class * (3 * table.colours + 2 * MAX_MODULES + 1) → s₃ ≤ s₀ + 25 * length whole + 7 * MAX_MODULES * (d + 1) + MAX_MODULES
       put_back_steps s₀ s₁ s₂ s₃ one two three =
-          let same : length class * (3 * table.colours + 2 * MAX_MODULES + 1) ≡ length class * (3 * d + 2 * MAX_MODULES + 1) = ap (λ n. length class * (3 * n + 2 * MAX_MODULES + 1)) table_colours in
+          let same : length class * (3 * table.colours + 2 * MAX_MODULES + 1) ≡ length class * (3 * d + 2 * MAX_MODULES + 1) =
+          ap (λ n. length class * (3 * n + 2 * MAX_MODULES + 1)) table_colours in
           omega (arith, one, two, three, same, colours, colours_few, class_steps (length class) d (length whole) high class_few)
 
-      pub put_back_coloured : (new : Colouring) → new.batch ≡ table.batch → new.colours ≡ table.colours → ((t : ℕ) → HasColour new.colour t ↔ (HasColour table.colour t ⊎ Contains class t)) → new.inserted ≤ table.inserted + length class → IsColouredPart batch whole new
+      pub put_back_coloured : (new : Colouring) → new.batch ≡ table.batch → new.colours ≡ table.colours
+          → ((t : ℕ) → HasColour new.colour t ↔ (HasColour table.colour t ⊎ Contains class t)) → new.inserted ≤ table.inserted + length class
+          → IsColouredPart batch whole new
       put_back_coloured new same colours_same placed count = record {
         degree = d;
         is_degree = degree;
@@ -344,5 +414,7 @@ module _ (batch : List Transfer) (whole left right : List ℕ) (d : ℕ) (t₁ t
         placed = λ t. (λ some. (each_placed t).1 ((placed t).0 some), λ stands. (placed t).1 ((each_placed t).0 stands));
         few =
             let kept : table.inserted ≡ joined.inserted = ap (λ (x : Colouring). x.inserted) taken.rest in
-            few_with (length class) new.inserted class_few (λ low. absurd (omega (arith, more, colours, c₁.colours_is, c₂.colours_is, low, both_degrees, left_degree, right_degree, high))) (omega (arith, kept, count, inserted));
+            few_with (length class) new.inserted class_few
+            (λ low. absurd (omega (arith, more, colours, c₁.colours_is, c₂.colours_is, low, both_degrees, left_degree, right_degree, high)))
+            (omega (arith, kept, count, inserted));
       }

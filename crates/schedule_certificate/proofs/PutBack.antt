@@ -18,7 +18,8 @@ pub record ArePutBack (old : Colouring) (class : List ℕ) (i : ℕ) (s : Colour
   pub placed : (t : ℕ) → HasColour s.colour t ↔ (HasColour old.colour t ⊎ Contains (take i class) t)
   pub inserted : s.inserted ≤ old.inserted + i
 
-pub all_back : (old : Colouring) (class : List ℕ) (i : ℕ) (s : Colouring) → length class ≤ i → ArePutBack old class i s → (t : ℕ) → HasColour s.colour t ↔ (HasColour old.colour t ⊎ Contains class t)
+pub all_back : (old : Colouring) (class : List ℕ) (i : ℕ) (s : Colouring) → length class ≤ i → ArePutBack old class i s → (t : ℕ)
+    → HasColour s.colour t ↔ (HasColour old.colour t ⊎ Contains class t)
 all_back old class i s past x t = let all : take i class ≡ class = take_all _ _ past in rw all at (x.placed t)
 
 from_front : (xs : List ℕ) (i u : ℕ) → Contains (take i xs) u → (j : ℕ) × (j < i) × (j < length xs) × (get_or xs j 0 ≡ u)
@@ -68,7 +69,8 @@ module _ (old s : Colouring) (class : List ℕ) (i : ℕ) (room : HasRoomFor old
       let fits : uses_among s.batch room.whole full.link ≤ s.colours = rw (x.batch, x.colours) (room.room full.link) in
       omega (arith, fits, full.full, part_room s.batch room.whole s.colour t full.link known only a_member out_now full.used)
 
-  pub one_back : (n : Colouring) → n.batch ≡ s.batch → n.colours ≡ s.colours → PlacesJust s.colour n.colour t → n.inserted ≤ s.inserted + 1 → ArePutBack old class (i + 1) n
+  pub one_back : (n : Colouring) → n.batch ≡ s.batch → n.colours ≡ s.colours → PlacesJust s.colour n.colour t → n.inserted ≤ s.inserted + 1
+      → ArePutBack old class (i + 1) n
   one_back n batch colours just count =
       let longer : take (i + 1) class ≡ take i class ++ t ∷ [] = take_more class i 0 within in
       record {
@@ -76,12 +78,19 @@ module _ (old s : Colouring) (class : List ℕ) (i : ℕ) (room : HasRoomFor old
         colours = colours ∙ x.colours;
         placed = λ u. (
           λ some. elim ((just.placed u).0 some) [
-            | inl before ↦ elim ((x.placed u).0 before) [ inl was ↦ inl was | inr front ↦ inr (subst (λ (l : List ℕ). Contains l u) (sym longer) (Contains-append_left (take i class) (t ∷ []) u front)) ]
-            | inr is ↦ inr (subst (λ (l : List ℕ). Contains l u) (sym longer) (subst (Contains (take i class ++ t ∷ [])) (sym is) (Contains-push (take i class) t)))
+            | inl before ↦
+                elim ((x.placed u).0 before) [
+                  | inl was ↦ inl was
+                  | inr front ↦
+                      inr (subst (λ (l : List ℕ). Contains l u) (sym longer) (Contains-append_left (take i class) (t ∷ []) u front))
+                ]
+            | inr is ↦ inr (subst (λ (l : List ℕ). Contains l u) (sym longer)
+                (subst (Contains (take i class ++ t ∷ [])) (sym is) (Contains-push (take i class) t)))
           ],
           λ either. (just.placed u).1 (elim either [
             | inl was ↦ inl ((x.placed u).1 (inl was))
-            | inr front ↦ elim (Contains-push_cases (take i class) t u (subst (λ (l : List ℕ). Contains l u) longer front)) [ inl before ↦ inl ((x.placed u).1 (inr before)) | inr is ↦ inr (sym is) ]
+            | inr front ↦ elim (Contains-push_cases (take i class) t u (subst (λ (l : List ℕ). Contains l u) longer front))
+                [ inl before ↦ inl ((x.placed u).1 (inr before)) | inr is ↦ inr (sym is) ]
           ]),
         );
         inserted = omega (arith, x.inserted, count);

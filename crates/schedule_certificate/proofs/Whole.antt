@@ -30,8 +30,18 @@ all_at n i d lt = omega (arith, get_or-range_with_len 0 n i d lt)
 
 pub all_part : (batch : List Transfer) → IsPart batch (all_of batch)
 all_part batch = record {
-  known = λ k d lt. omega (arith, length-range_with_len 0 (length batch), all_at (length batch) k d (omega (arith, lt, length-range_with_len 0 (length batch))));
-  distinct = λ i j d lt within same. omega (arith, same, length-range_with_len 0 (length batch), all_at (length batch) i d (omega (arith, lt, within, length-range_with_len 0 (length batch))), all_at (length batch) j d (omega (arith, within, length-range_with_len 0 (length batch))));
+  known = λ k d lt. omega (
+    arith,
+    length-range_with_len 0 (length batch),
+    all_at (length batch) k d (omega (arith, lt, length-range_with_len 0 (length batch))),
+  );
+  distinct = λ i j d lt within same. omega (
+    arith,
+    same,
+    length-range_with_len 0 (length batch),
+    all_at (length batch) i d (omega (arith, lt, within, length-range_with_len 0 (length batch))),
+    all_at (length batch) j d (omega (arith, within, length-range_with_len 0 (length batch))),
+  );
 }
 
 in_all : (batch : List Transfer) (t : ℕ) → t < length batch → Contains (all_of batch) t
@@ -46,7 +56,8 @@ members_upto batch (suc i) le =
     let x : Transfer = get_or batch i no_transfer in
     let number : get_or (all_of batch) i 0 ≡ i = all_at (length batch) i 0 lt in
     let here : slice_get batch (get_or (all_of batch) i 0) ≡ Some x = ap (slice_get batch) number ∙ slice_get-get_or batch i no_transfer lt in
-    let more : members batch (take (suc i) (all_of batch)) ≡ members batch (take i (all_of batch)) ++ x ∷ [] = rw (add-one i) at (some_more batch (all_of batch) i 0 x (omega (arith, lt, length-range_with_len 0 (length batch))) here) in
+    let more : members batch (take (suc i) (all_of batch)) ≡ members batch (take i (all_of batch)) ++ x ∷ [] = rw (add-one i)
+    at (some_more batch (all_of batch) i 0 x (omega (arith, lt, length-range_with_len 0 (length batch))) here) in
     let longer : take (suc i) batch ≡ take i batch ++ x ∷ [] = rw (add-one i) at (take_more batch i no_transfer lt) in
     more ∙ (ap (λ (xs : List Transfer). xs ++ x ∷ []) (members_upto batch i (omega arith)) ∙ sym longer)
 
@@ -59,13 +70,22 @@ all_members batch =
 
 no_settings : (settings : List (List ℕ)) → All (λ setting. 0 < length setting) settings → All (All (λ t. t < 0)) settings → length settings ≤ 0
 no_settings [] some none = omega arith
-no_settings (s ∷ settings) some none = absurd (omega (arith, All-head (All (λ t. t < 0)) s settings none 0 0 (All-head (λ setting. 0 < length setting) s settings some)))
+no_settings (s ∷ settings) some none =
+    absurd (omega (arith, All-head (All (λ t. t < 0)) s settings none 0 0 (All-head (λ setting. 0 < length setting) s settings some)))
 
-count_few : (batch : List Transfer) (settings : List (List ℕ)) (d : ℕ) → IsDegree batch d → IsScheduleOf batch settings → All (λ setting. 0 < length setting) settings → length settings ≤ max 1 d → length settings ≤ d
+count_few : (batch : List Transfer) (settings : List (List ℕ)) (d : ℕ) → IsDegree batch d → IsScheduleOf batch settings → All (λ setting. 0 < length setting)
+    settings → length settings ≤ max 1 d → length settings ≤ d
 count_few [] settings d degree schedule some few = omega (arith, no_settings settings some schedule.no_other)
-count_few (x ∷ xs) settings d degree schedule some few = omega (arith, degree.most (start_link x), sum_by-cons (use_of (start_link x)) x xs, use_yes (start_link x) x refl)
+count_few (x ∷ xs) settings d degree schedule some few = omega (
+  arith,
+  degree.most (start_link x),
+  sum_by-cons (use_of (start_link x)) x xs,
+  use_yes (start_link x) x refl,
+)
 
-pub all_coloured : (batch : List Transfer) (table : Colouring) (coloured : ColouredSettings) → IsColouredPart batch (all_of batch) table → AreClassesOf table.colour coloured.settings → coloured.inserted ≡ table.inserted → length coloured.settings ≤ table.colours → (AllPlaced table → IsScheduleOf table.batch coloured.settings) → IsColoured batch coloured
+pub all_coloured : (batch : List Transfer) (table : Colouring) (coloured : ColouredSettings) → IsColouredPart batch (all_of batch) table
+    → AreClassesOf table.colour coloured.settings → coloured.inserted ≡ table.inserted → length coloured.settings ≤ table.colours
+    → (AllPlaced table → IsScheduleOf table.batch coloured.settings) → IsColoured batch coloured
 all_coloured batch table coloured c classes inserted few schedule_if =
     let every : AllPlaced table = λ t lt. (c.placed t).1 (in_all batch t (subst (λ (b : List Transfer). t < length b) c.batch_is lt)) in
     let schedule : IsScheduleOf batch coloured.settings = subst (λ (b : List Transfer). IsScheduleOf b coloured.settings) c.batch_is (schedule_if every) in
@@ -78,11 +98,13 @@ all_coloured batch table coloured c classes inserted few schedule_if =
       none_empty = classes.none_empty;
       ascending = classes.ascending;
       by_least = classes.by_least;
-      few = subst (λ (n : ℕ). AreFew n c.degree coloured.inserted) (length-range_with_len 0 (length batch)) (subst (AreFew (length (all_of batch)) c.degree) (sym inserted) c.few);
+      few = subst (λ (n : ℕ). AreFew n c.degree coloured.inserted) (length-range_with_len 0 (length batch))
+          (subst (AreFew (length (all_of batch)) c.degree) (sym inserted) c.few);
     }
 
 -- the table of all transfers has few enough colours
-pub colours_fit : (batch : List Transfer) (table : Colouring) (k : ℕ) → UsesAtMost batch (2 ^ k) → IsColouredPart batch (all_of batch) table → (table.colours ≤ 2 ^ k) × (table.batch ≡ batch)
+pub colours_fit : (batch : List Transfer) (table : Colouring) (k : ℕ) → UsesAtMost batch (2 ^ k) → IsColouredPart batch (all_of batch) table
+    → (table.colours ≤ 2 ^ k) × (table.batch ≡ batch)
 colours_fit batch table k low c =
     let degree : IsDegree batch c.degree = subst (λ (xs : List Transfer). IsDegree xs c.degree) (all_members batch) c.is_degree in
     (omega (arith, c.colours_is, degree_fits batch c.degree (2 ^ k) degree low, one_at k), c.batch_is)

@@ -53,7 +53,8 @@ module _ (batch : List Transfer) (e : End) (n : ℕ) (below : All (λ x. module_
       let t_in : t < length batch = known 0 (omega arith) in
       let found = known_transfer batch t t_in in
       let more : members batch (t ∷ ts) ≡ found.0 ∷ members batch ts = rw found.1 refl in
-      let each : (m : ℕ) → uses_among batch (t ∷ ts) (made e m) ≡ use_of (made e m) found.0 + uses_among batch ts (made e m) = λ m. ap (λ (xs : List Transfer). uses xs (made e m)) more ∙ sum_by-cons (λ y. use_of (made e m) y) found.0 (members batch ts) in
+      let each : (m : ℕ) → uses_among batch (t ∷ ts) (made e m) ≡ use_of (made e m) found.0 + uses_among batch ts (made e m) =
+      λ m. ap (λ (xs : List Transfer). uses xs (made e m)) more ∙ sum_by-cons (λ y. use_of (made e m) y) found.0 (members batch ts) in
       let here : get_or batch t found.0 ≡ found.0 = get_or_from_slice_get batch t found.0 found.0 found.1 in
       let low : module_at e found.0 < n = omega (arith, below t found.0 t_in, ap (module_at e) here) in
       omega (
@@ -64,7 +65,8 @@ module _ (batch : List Transfer) (e : End) (n : ℕ) (below : All (λ x. module_
         spread ts (λ i lt. known (suc i) (omega arith)),
       )
 
-pub reaches : (batch : List Transfer) (part : List ℕ) (width most : ℕ) → IsPart batch part → IsWidth batch width → ((link : Link) → uses_among batch part link ≤ most) → width * (most - 1) < length part → IsDegree (members batch part) most
+pub reaches : (batch : List Transfer) (part : List ℕ) (width most : ℕ) → IsPart batch part → IsWidth batch width
+    → ((link : Link) → uses_among batch part link ≤ most) → width * (most - 1) < length part → IsDegree (members batch part) most
 reaches batch part width most is_part is_width low many = record {
   most = low;
   reached = elim (one_or_few width most (λ m. uses_among batch part (made is_width.at m))) [

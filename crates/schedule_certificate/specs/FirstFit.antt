@@ -1,6 +1,7 @@
 -- First fit, the greedy colouring of edges: transfers come by number, and each joins the first
 -- setting whose transfers use other links.
-use Rattle.std.specs.Prelude.{◌≡◌, ℕ, ◌<◌, ◌++◌, ◌∷◌, List, [], length, All, AllPairs, Contains, slice_index_or, take}
+use Rattle.std.specs.Prelude.{◌≡◌, ℕ, ◌<◌, ◌++◌, ◌∷◌, List, [], length, All, AllPairs, Contains}
+use Rattle.std.specs.Prelude.{slice_index_or, take}
 use Rattle.batch.specs.declared.transfer.Transfer.{Transfer}
 use Rattle.link_graph.specs.declared.link.Link.{Link}
 use Rattle.link_graph.specs.Uses.{AreApart, Uses}

@@ -1,5 +1,6 @@
 -- Parts of the transfers of a batch, and colourings of just these.
-use Rattle.std.specs.Prelude.{◌≡◌, ◌↔◌, ℕ, ◌+◌, ◌/◌, ◌<◌, ◌≤◌, ◌⊎◌, max, List, ◌++◌, length, Option, None, All, Contains}
+use Rattle.std.specs.Prelude.{◌≡◌, ◌↔◌, ℕ, ◌+◌, ◌/◌, ◌<◌, ◌≤◌, ◌⊎◌, max, List, ◌++◌, length, Option}
+use Rattle.std.specs.Prelude.{None, All, Contains}
 use Rattle.std.specs.List.Sorted.{IsPermutation}
 use Rattle.batch.specs.declared.transfer.Transfer.{Transfer}
 use Rattle.link_graph.specs.declared.link.End.{End}

@@ -1,7 +1,8 @@
 -- Plans: a shortest schedule of a batch, with the certificate that shows it. D. König, 1916: a
 -- bipartite multigraph has an edge colouring with as many colours as its busiest node has edges,
 -- and none has fewer.
-use Rattle.std.specs.Prelude.{◌≡◌, ◌<◌, ◌≤◌, ℕ, List, [], length, All, AllPairs, Option, Some, None, slice_index}
+use Rattle.std.specs.Prelude.{◌≡◌, ◌<◌, ◌≤◌, ℕ, List, [], length, All, AllPairs, Option, Some, None}
+use Rattle.std.specs.Prelude.{slice_index}
 use Rattle.batch.specs.Batches.{IsBatch}
 use Rattle.batch.specs.declared.transfer.Transfer.{Transfer}
 use Rattle.link_graph.specs.declared.link.Link.{Link}

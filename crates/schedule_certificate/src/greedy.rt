@@ -3,7 +3,8 @@
 ghost use Rattle.std.specs.Prelude.{◌<◌, ◌≤◌, MatchBool, IfOk, OnOk, IfSome, IfNone, length};
 ghost use Rattle.link_graph.specs.Uses.{AreApart};
 ghost use Rattle.link_graph.specs.Schedules.{IsScheduleOf, lists_of};
-ghost use Rattle.schedule_certificate.specs.FirstFit.{Places, IsOpenTo, IsFirstOpen, IsBlocked, AllBlocked, Share, IsFirstFit};
+ghost use Rattle.schedule_certificate.specs.FirstFit.{Places, IsOpenTo, IsFirstOpen, IsBlocked};
+ghost use Rattle.schedule_certificate.specs.FirstFit.{AllBlocked, Share, IsFirstFit};
 
 use batch::Batch;
 use link_graph::Schedule;

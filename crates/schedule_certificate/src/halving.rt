@@ -1,12 +1,15 @@
 //! Colouring a part of a graph by its halves, one after the other.
 
-ghost use Rattle.std.specs.Prelude.{◌≡◌, ℕ, ◌+◌, ◌-◌, ◌*◌, ◌^◌, ◌≤◌, List, length, take, drop, IfOk};
+ghost use Rattle.std.specs.Prelude.{◌≡◌, ℕ, ◌+◌, ◌-◌, ◌*◌, ◌^◌, ◌≤◌, List, length, take, drop};
+ghost use Rattle.std.specs.Prelude.{IfOk};
 ghost use Rattle.batch.specs.declared.limits.TheConstants.{MAX_MODULES};
 ghost use Rattle.batch.specs.declared.transfer.Transfer.{Transfer};
 ghost use Rattle.link_graph.specs.declared.limits.TheConstants.{LINKS};
 ghost use Rattle.link_graph.specs.Marks.{members};
 ghost use Rattle.euler_split.specs.Evenness.{CanBeHalved};
-ghost use Rattle.schedule_certificate.specs.Parts.{IsPart, IsDegree, IsPartBy, IsWidth, AreHalves, AreHalvesOfTwo, AreColouredHalves, IsColouredPart, HasRoomFor, PlacesClass};
+ghost use Rattle.schedule_certificate.specs.Parts.{IsPart, IsDegree, IsPartBy, IsWidth, AreHalves};
+ghost use Rattle.schedule_certificate.specs.Parts.{AreHalvesOfTwo, AreColouredHalves};
+ghost use Rattle.schedule_certificate.specs.Parts.{IsColouredPart, HasRoomFor, PlacesClass};
 ghost use Rattle.schedule_certificate.specs.Steps.{at_most, colouring_steps};
 
 use crate::degree::{KnownDegree, degree_of, half_of};

@@ -3,7 +3,8 @@
 ghost use Rattle.std.specs.Prelude.{◌≡◌, ℕ, ◌+◌, ◌*◌, ◌^◌, ◌<◌, ◌≤◌, IfOk, length};
 ghost use Rattle.std.specs.List.{range_with_len};
 ghost use Rattle.schedule_certificate.specs.Parts.{IsDegree};
-ghost use Rattle.schedule_certificate.specs.Plans.{NamesBusiest, IsPlan, IsColoured, HasFewReinsertions};
+ghost use Rattle.schedule_certificate.specs.Plans.{NamesBusiest, IsPlan, IsColoured};
+ghost use Rattle.schedule_certificate.specs.Plans.{HasFewReinsertions};
 ghost use Rattle.schedule_certificate.specs.Steps.{UsesAtMost, most_steps};
 
 use crate::colouring::colour_copy;

@@ -15,7 +15,8 @@ pub most_used : (batch : List Transfer) (busiest : Option Link) (link : Link) �
 most_used batch None link is = unused batch link is
 most_used batch (Some b) link is = is.most link
 
-pub busiest_of : (batch : List Transfer) (busiest : Option Link) → (IsNone busiest ↔ (batch ≡ [])) → IfSome busiest (IsBusiest batch) → IsBusiestOf batch busiest
+pub busiest_of : (batch : List Transfer) (busiest : Option Link) → (IsNone busiest ↔ (batch ≡ [])) → IfSome busiest (IsBusiest batch)
+    → IsBusiestOf batch busiest
 busiest_of batch None none most = none.0 refl
 busiest_of batch (Some b) none most = most
 
@@ -23,12 +24,19 @@ least_by : (batch : List Transfer) (settings : List (List ℕ)) (busiest : Optio
 least_by batch settings None s = omega arith
 least_by batch settings (Some link) s = uses_bound batch link settings s
 
-few_by : (batch : List Transfer) (settings : List (List ℕ)) (busiest link : Option Link) (named : List ℕ) → IsBusiestOf batch busiest → CertifiesBy batch settings link named → length settings ≤ uses_of batch busiest
+few_by : (batch : List Transfer) (settings : List (List ℕ)) (busiest link : Option Link) (named : List ℕ) → IsBusiestOf batch busiest
+    → CertifiesBy batch settings link named → length settings ≤ uses_of batch busiest
 few_by batch settings busiest None named is c = rw c.no_settings (omega arith)
 few_by batch settings busiest (Some link) named is c = omega (arith, c.many, named_few batch link named c.all_use c.distinct, most_used batch busiest link is)
 
 pub tells_fewest : VerdictTellsFewest
 tells_fewest batch settings certificate verdict is = record {
   least = λ other s. omega (arith, is.fewest, least_by batch other is.link s);
-  certified = λ other named c. omega (arith, is.fewest, least_by batch other is.link c.schedule, few_by batch other is.link named.link named.transfers is.most c.certificate);
+  certified = λ other named c. omega (
+    arith,
+    is.fewest,
+    least_by batch other is.link c.schedule,
+    few_by batch other is.link named.link named.transfers is.most
+        c.certificate,
+  );
 }

@@ -7,7 +7,8 @@ use Rattle.steady_schedule.proofs.NeedChanges.{need_changes}
 use Rattle.schedule_picture.specs.Laws.{TellsNeededChanges}
 use Rattle.schedule_picture.specs.Verdicts.{AreMostPartners, IsLeastShown}
 
-partners_few : (batch : List Transfer) (partners : ℕ) (other : List (List ℕ)) → AreMostPartners batch partners → IsScheduleOf batch other → partners ≤ changes batch other
+partners_few : (batch : List Transfer) (partners : ℕ) (other : List (List ℕ)) → AreMostPartners batch partners → IsScheduleOf batch other
+    → partners ≤ changes batch other
 partners_few batch partners other most schedule = omega (arith, most.has, need_changes batch other most.link schedule)
 
 pub by_partners : (batch : List Transfer) (settings fewest partners : ℕ) → AreMostPartners batch partners → IsLeastShown batch settings fewest partners partners

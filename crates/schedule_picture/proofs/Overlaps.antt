@@ -24,7 +24,8 @@ same_column : (k l : ℕ) → cell_left k < cell_left l + CELL_WIDTH → cell_le
 unfolding column_place
 same_column k l one other = omega arith
 
-same_half : (r s : ℕ) (e f : End) → ROWS_TOP + r * ROW_HEIGHT + half_place e + INSET < ROWS_TOP + s * ROW_HEIGHT + half_place f + INSET + CELL_HEIGHT → ROWS_TOP + s * ROW_HEIGHT + half_place f + INSET < ROWS_TOP + r * ROW_HEIGHT + half_place e + INSET + CELL_HEIGHT → (r ≡ s) × (e ≡ f)
+same_half : (r s : ℕ) (e f : End) → ROWS_TOP + r * ROW_HEIGHT + half_place e + INSET < ROWS_TOP + s * ROW_HEIGHT + half_place f + INSET + CELL_HEIGHT
+    → ROWS_TOP + s * ROW_HEIGHT + half_place f + INSET < ROWS_TOP + r * ROW_HEIGHT + half_place e + INSET + CELL_HEIGHT → (r ≡ s) × (e ≡ f)
 same_half r s Zero Zero one other = (omega arith, refl)
 same_half r s Zero Three one other = absurd (omega arith)
 same_half r s Three Zero one other = absurd (omega arith)
@@ -64,7 +65,8 @@ uses_own batch t x Zero at = (x, at, inl refl)
 uses_own batch t x Three at = (x, at, inr refl)
 
 -- two positions of a matching whose transfers use one link are one
-same_position : (batch : List Transfer) (setting : List ℕ) (i j t u : ℕ) (link : Link) → IsMatching batch setting → slice_get setting i ≡ Some t → slice_get setting j ≡ Some u → Uses batch t link → Uses batch u link → i ≡ j
+same_position : (batch : List Transfer) (setting : List ℕ) (i j t u : ℕ) (link : Link) → IsMatching batch setting → slice_get setting i ≡ Some t
+    → slice_get setting j ≡ Some u → Uses batch t link → Uses batch u link → i ≡ j
 same_position batch setting i j t u link matching one other uses used =
     let here = get_or_from_slice_get setting i t 0 one in
     let there = get_or_from_slice_get setting j u 0 other in
@@ -78,23 +80,28 @@ same_position batch setting i j t u link matching one other uses used =
       ]
     ]
 
-matching_at : (batch : List Transfer) (settings : List (List ℕ)) (k : ℕ) (setting : List ℕ) → slice_get settings k ≡ Some setting → IsScheduleOf batch settings → IsMatching batch setting
-matching_at batch settings k setting here s = subst (λ (q : List ℕ). IsMatching batch q) (get_or_from_slice_get settings k setting [] here) (s.matchings k [] (slice_get_within settings k setting here))
+matching_at : (batch : List Transfer) (settings : List (List ℕ)) (k : ℕ) (setting : List ℕ) → slice_get settings k ≡ Some setting → IsScheduleOf batch settings
+    → IsMatching batch setting
+matching_at batch settings k setting here s = subst (λ (q : List ℕ). IsMatching batch q) (get_or_from_slice_get settings k setting [] here)
+    (s.matchings k [] (slice_get_within settings k setting here))
 
 -- cells of one setting in the half of one link stand at one position
-one_cell : (batch : List Transfer) (settings : List (List ℕ)) (shown : ShownSettings) (l i j : ℕ) (x y : Transfer) (e : End) → IsScheduleOf batch settings → IsDrawnAt batch settings shown l i x → IsDrawnAt batch settings shown l j y → module_at e x ≡ module_at e y → i ≡ j
+one_cell : (batch : List Transfer) (settings : List (List ℕ)) (shown : ShownSettings) (l i j : ℕ) (x y : Transfer) (e : End) → IsScheduleOf batch settings
+    → IsDrawnAt batch settings shown l i x → IsDrawnAt batch settings shown l j y → module_at e x ≡ module_at e y → i ≡ j
 one_cell batch settings shown l i j x y e s here there same =
     let setting : there.setting ≡ here.setting = cc (here.in_schedule, there.in_schedule) in
     let at = subst (λ (q : List ℕ). slice_get q j ≡ Some there.number) setting there.in_setting in
     let used = subst (λ (m : ℕ). Uses batch there.number (link_of e m)) (sym same) (uses_own batch there.number y e there.in_batch) in
-    same_position batch here.setting i j here.number there.number (link_of e (module_at e x)) (matching_at batch settings (shown.first + l) here.setting here.in_schedule s) here.in_setting at (uses_own batch here.number x e here.in_batch) used
+    same_position batch here.setting i j here.number there.number (link_of e (module_at e x))
+    (matching_at batch settings (shown.first + l) here.setting here.in_schedule s) here.in_setting at (uses_own batch here.number x e here.in_batch) used
 
 pub overlapping : NothingOverlaps
 unfolding row_place
 overlapping batch settings shown s k i x e l j y f here there over =
     let column = same_column k l over.not_right over.not_left in
     let half = same_half (row_of batch (module_at e x)) (row_of batch (module_at f y)) e f over.not_below over.not_above in
-    let same = same_row batch (module_at e x) (module_at f y) (has_row batch here.number x e here.in_batch) (has_row batch there.number y f there.in_batch) half.0 in
+    let same = same_row batch (module_at e x) (module_at f y) (has_row batch here.number x e here.in_batch) (has_row batch there.number y f there.in_batch)
+    half.0 in
     let there_now = subst (λ (n : ℕ). IsDrawnAt batch settings shown n j y) (sym column) there in
     let same_end = subst (λ (g : End). module_at e x ≡ module_at g y) (sym half.1) same in
     (column, one_cell batch settings shown k i j x y e s here there_now same_end, half.1)

@@ -20,7 +20,8 @@ both a b c x y z p q e = next a b c x y p q ∙ ap (λ (t : List ℕ). a ++ t) e
 pub all_four : (a b c d e x y v w z : List ℕ) → b ≡ a ++ x → c ≡ b ++ y → d ≡ c ++ v → e ≡ d ++ w → ((x ++ y) ++ v) ++ w ≡ z → e ≡ a ++ z
 all_four a b c d e x y v w z p q r s = both a d e ((x ++ y) ++ v) w z (next a c d (x ++ y) v (next a b c x y p q) r) s
 
-pub all_five : (a b c d e f x y v w u z : List ℕ) → b ≡ a ++ x → c ≡ b ++ y → d ≡ c ++ v → e ≡ d ++ w → f ≡ e ++ u → (((x ++ y) ++ v) ++ w) ++ u ≡ z → f ≡ a ++ z
+pub all_five : (a b c d e f x y v w u z : List ℕ) → b ≡ a ++ x → c ≡ b ++ y → d ≡ c ++ v → e ≡ d ++ w → f ≡ e ++ u → (((x ++ y) ++ v) ++ w) ++ u ≡ z → f ≡ a
+    ++ z
 all_five a b c d e f x y v w u z p q r s t = all_four a c d e f (x ++ y) v w u z (next a b c x y p q) r s t
 
 -- two parts, of which the last may want memory, are together what is wanted; and three, four and
@@ -31,10 +32,12 @@ two r a b c x y z p q e = on_ok_weaker r (λ (h : c ≡ b ++ y). next a b c x y 
 pub three : {T E : Type 0} (r : Result T E) (a b c d x y v z : List ℕ) → b ≡ a ++ x → c ≡ b ++ y → OnOk r (d ≡ c ++ v) → (x ++ y) ++ v ≡ z → OnOk r (d ≡ a ++ z)
 three r a b c d x y v z p q = two r a c d (x ++ y) v z (next a b c x y p q)
 
-pub four : {T E : Type 0} (r : Result T E) (a b c d e x y v w z : List ℕ) → b ≡ a ++ x → c ≡ b ++ y → d ≡ c ++ v → OnOk r (e ≡ d ++ w) → ((x ++ y) ++ v) ++ w ≡ z → OnOk r (e ≡ a ++ z)
+pub four : {T E : Type 0} (r : Result T E) (a b c d e x y v w z : List ℕ) → b ≡ a ++ x → c ≡ b ++ y → d ≡ c ++ v → OnOk r (e ≡ d ++ w) → ((x ++ y) ++ v) ++ w
+    ≡ z → OnOk r (e ≡ a ++ z)
 four r a b c d e x y v w z p q = three r a c d e (x ++ y) v w z (next a b c x y p q)
 
-pub five : {T E : Type 0} (r : Result T E) (a b c d e f x y v w u z : List ℕ) → b ≡ a ++ x → c ≡ b ++ y → d ≡ c ++ v → e ≡ d ++ w → OnOk r (f ≡ e ++ u) → (((x ++ y) ++ v) ++ w) ++ u ≡ z → OnOk r (f ≡ a ++ z)
+pub five : {T E : Type 0} (r : Result T E) (a b c d e f x y v w u z : List ℕ) → b ≡ a ++ x → c ≡ b ++ y → d ≡ c ++ v → e ≡ d ++ w → OnOk r (f ≡ e ++ u)
+    → (((x ++ y) ++ v) ++ w) ++ u ≡ z → OnOk r (f ≡ a ++ z)
 five r a b c d e f x y v w u z p q = four r a c d e f (x ++ y) v w u z (next a b c x y p q)
 
 -- what is put after a text where there is memory
@@ -43,5 +46,6 @@ put (Ok v) s x y e = e
 put (Err v) s x y e = tt
 
 -- one more part, for one more of a list
-pub more_items : (f : ℕ → List ℕ) (before xs : List ℕ) (i : ℕ) → i < length xs → (before ++ flat_map f (take i xs)) ++ f (get_or xs i 0) ≡ before ++ flat_map f (take (i + 1) xs)
+pub more_items : (f : ℕ → List ℕ) (before xs : List ℕ) (i : ℕ) → i < length xs → (before ++ flat_map f (take i xs)) ++ f (get_or xs i 0) ≡ before
+    ++ flat_map f (take (i + 1) xs)
 more_items f before xs i lt = flat_map_more f before (take i xs) (get_or xs i 0) ∙ ap (λ (ys : List ℕ). before ++ flat_map f ys) (sym (take_more xs i 0 lt))

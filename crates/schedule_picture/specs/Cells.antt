@@ -13,7 +13,8 @@ use Rattle.link_graph.specs.declared.link.End.TheVariants.{Zero, Three}
 use Rattle.link_graph.specs.Links.{other_end}
 use Rattle.link_graph.specs.ScheduleText.{end_number}
 use Rattle.link_graph.specs.Counts.{module_at}
-use Rattle.schedule_picture.specs.declared.layout.TheConstants.{ROWS_TOP, INSET, CELL_WIDTH, CELL_HEIGHT}
+use Rattle.schedule_picture.specs.declared.layout.TheConstants.{ROWS_TOP, INSET, CELL_WIDTH}
+use Rattle.schedule_picture.specs.declared.layout.TheConstants.{CELL_HEIGHT}
 use Rattle.schedule_picture.specs.Places.{row_place, half_place, column_place}
 use Rattle.schedule_picture.specs.Elements.{coloured_box, text_start}
 

@@ -15,7 +15,8 @@ use Rattle.schedule_picture.specs.Verdicts.{IsVerdict}
 use Rattle.schedule_picture.specs.Cells.{cell_left, cell_top}
 
 -- the transfer stands at position i of the setting of column j
-pub record IsDrawnAt (batch : List Transfer) (settings : List (List ℕ)) (shown : ShownSettings) (j i : ℕ)
+pub record IsDrawnAt (batch : List Transfer) (settings : List (List ℕ)) (shown : ShownSettings)
+    (j i : ℕ)
     (x : Transfer) : Type 0 where
   pub is_shown : j < shown.count
   pub setting : List ℕ

@@ -1,12 +1,14 @@
 -- The picture of a schedule: the text of an SVG file.
-use Rattle.std.specs.Prelude.{ℕ, ◌+◌, ◌-◌, ◌==◌, if◌then◌else◌, List, [], ◌++◌, length, Option, Some, None, codes}
+use Rattle.std.specs.Prelude.{ℕ, ◌+◌, ◌-◌, ◌==◌, if◌then◌else◌, List, [], ◌++◌, length, Option}
+use Rattle.std.specs.Prelude.{Some, None, codes}
 use Rattle.std.specs.Fmt.{decimal}
 use Rattle.std.specs.List.{flat_map, range_with_len}
 use Rattle.batch.specs.declared.transfer.Transfer.{Transfer}
 use Rattle.link_graph.specs.declared.link.Link.{Link}
 use Rattle.schedule_picture.specs.declared.shown.ShownSettings.{ShownSettings}
 use Rattle.schedule_picture.specs.declared.verdict.CertificateStatus.{CertificateStatus}
-use Rattle.schedule_picture.specs.declared.verdict.CertificateStatus.TheVariants.{Certified, Wrong, Missing}
+use Rattle.schedule_picture.specs.declared.verdict.CertificateStatus.TheVariants.{Certified, Wrong}
+use Rattle.schedule_picture.specs.declared.verdict.CertificateStatus.TheVariants.{Missing}
 use Rattle.schedule_picture.specs.declared.verdict.Verdict.{Verdict}
 use Rattle.schedule_picture.specs.declared.style.TheConstants.{STYLE, EXPLAINED}
 use Rattle.schedule_picture.specs.Places.{rack_modules, legend_place, height_of, width_of}
@@ -64,7 +66,8 @@ shown_words settings shown =
 -- certificate stands, and which settings are shown
 unfoldable pub note_text : ℕ → Verdict → ShownSettings → List ℕ
 note_text settings verdict shown =
-    changes_words verdict.changes verdict.partners verdict.least ++ codes ", " ++ busiest_words verdict.busiest
+    changes_words verdict.changes verdict.partners verdict.least ++ codes ", "
+    ++ busiest_words verdict.busiest
     ++ standing_words verdict.standing ++ shown_words settings shown
 
 -- the looks of everything

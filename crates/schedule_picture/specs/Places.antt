@@ -1,13 +1,17 @@
 -- Which module has which row of a picture, which setting which column, and where these stand. The
 -- layout is this project's choice.
-use Rattle.std.specs.Prelude.{ℕ, ◌≡◌, ◌<◌, ◌+◌, ◌-◌, ◌*◌, ◌/◌, min, max, Bool, false, ◌==◌, ◌||◌, List, slice_index_or}
+use Rattle.std.specs.Prelude.{ℕ, ◌≡◌, ◌<◌, ◌+◌, ◌-◌, ◌*◌, ◌/◌, min, max, Bool, false, ◌==◌, ◌||◌}
+use Rattle.std.specs.Prelude.{List, slice_index_or}
 use Rattle.std.specs.List.{list_any}
 use Rattle.batch.specs.declared.limits.TheConstants.{MAX_MODULES}
 use Rattle.batch.specs.declared.transfer.Transfer.{Transfer}
 use Rattle.link_graph.specs.declared.link.End.{End}
 use Rattle.link_graph.specs.declared.link.End.TheVariants.{Zero, Three}
 use Rattle.link_graph.specs.Counts.{count_below}
-use Rattle.schedule_picture.specs.declared.layout.TheConstants.{MARGIN, ROWS_TOP, PANEL_COLUMNS, LABEL_WIDTH, COLUMN_WIDTH, ROW_HEIGHT, HALF_HEIGHT, LEGEND_HEIGHT, MIN_WIDTH}
+use Rattle.schedule_picture.specs.declared.layout.TheConstants.{MARGIN, ROWS_TOP, PANEL_COLUMNS}
+use Rattle.schedule_picture.specs.declared.layout.TheConstants.{LABEL_WIDTH, COLUMN_WIDTH}
+use Rattle.schedule_picture.specs.declared.layout.TheConstants.{ROW_HEIGHT, HALF_HEIGHT}
+use Rattle.schedule_picture.specs.declared.layout.TheConstants.{LEGEND_HEIGHT, MIN_WIDTH}
 
 -- ---- rows
 
@@ -61,7 +65,8 @@ panel_width columns panel = COLUMN_WIDTH * min PANEL_COLUMNS (columns - panel * 
 
 -- the panels, or the legend where that is wider
 unfoldable pub width_of : ℕ → ℕ
-width_of columns = max MIN_WIDTH (2 * MARGIN + panels_of columns * LABEL_WIDTH + columns * COLUMN_WIDTH)
+width_of columns = max MIN_WIDTH (2 * MARGIN + panels_of columns * LABEL_WIDTH + columns *
+    COLUMN_WIDTH)
 
 -- ---- the table of rows
 

@@ -1,6 +1,7 @@
 -- The rows of a picture: in each panel the label of the module, in its colour, and for each of its
 -- two links the ground on which the cells stand.
-use Rattle.std.specs.Prelude.{ℕ, ◌+◌, ◌-◌, Bool, true, false, ◌==◌, ◌&&◌, if◌then◌else◌, List, [], ◌++◌, Option, Some, None, codes}
+use Rattle.std.specs.Prelude.{ℕ, ◌+◌, ◌-◌, Bool, true, false, ◌==◌, ◌&&◌, if◌then◌else◌, List, []}
+use Rattle.std.specs.Prelude.{◌++◌, Option, Some, None, codes}
 use Rattle.std.specs.Fmt.{decimal}
 use Rattle.std.specs.List.{flat_map, range_with_len}
 use Rattle.batch.specs.declared.transfer.Transfer.{Transfer}
@@ -8,7 +9,8 @@ use Rattle.link_graph.specs.declared.link.End.TheVariants.{Zero, Three}
 use Rattle.link_graph.specs.declared.link.Link.{Link}
 use Rattle.link_graph.specs.ScheduleText.{end_number}
 use Rattle.schedule_picture.specs.declared.layout.TheConstants.{ROWS_TOP, LABEL_WIDTH, HALF_HEIGHT}
-use Rattle.schedule_picture.specs.Places.{takes_part, row_place, half_place, panels_of, panel_place, panel_width}
+use Rattle.schedule_picture.specs.Places.{takes_part, row_place, half_place, panels_of, panel_place}
+use Rattle.schedule_picture.specs.Places.{panel_width}
 use Rattle.schedule_picture.specs.Elements.{box_text, coloured_box, text_start, link_label}
 use Rattle.steady_schedule.specs.Bounds.{link_of}
 
@@ -36,7 +38,8 @@ lane_title marked link = looks_of marked ++ link_label link ++ codes "</title><r
 -- the half of a link, whose row begins at the top: its ground, and the label `link E` before it
 unfoldable pub lane_text : Bool → Link → ℕ → ℕ → ℕ → List ℕ
 lane_text marked link left top width =
-    lane_title marked link ++ box_text (left + LABEL_WIDTH) (top + half_place link.end) width HALF_HEIGHT
+    lane_title marked link ++ box_text (left + LABEL_WIDTH) (top + half_place link.end) width
+    HALF_HEIGHT
     ++ text_start (left + 104) (top + half_place link.end + 14) ++ codes "link "
     ++ decimal (end_number link.end) ++ codes "</text></g>\n"
 

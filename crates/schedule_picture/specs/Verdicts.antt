@@ -10,7 +10,8 @@ use Rattle.steady_schedule.specs.Changes.{changes}
 use Rattle.steady_schedule.specs.Partners.{partners}
 use Rattle.steady_schedule.specs.Prices.{AreNeeded}
 use Rattle.schedule_picture.specs.declared.verdict.CertificateStatus.{CertificateStatus}
-use Rattle.schedule_picture.specs.declared.verdict.CertificateStatus.TheVariants.{Certified, Wrong, Missing}
+use Rattle.schedule_picture.specs.declared.verdict.CertificateStatus.TheVariants.{Certified, Wrong}
+use Rattle.schedule_picture.specs.declared.verdict.CertificateStatus.TheVariants.{Missing}
 use Rattle.schedule_picture.specs.declared.verdict.Verdict.{Verdict}
 
 -- the link that most transfers use, and the first among equals; none where there is no transfer
@@ -30,7 +31,8 @@ IsProofOf batch settings named Wrong = IsCertificate batch settings named → �
 IsProofOf batch settings named Missing = ⊥
 
 -- how the certificate stands, where there is one
-abbrev pub IsCertificateStatus : List Transfer → List (List ℕ) → Option Naming → CertificateStatus → Type 0
+abbrev pub IsCertificateStatus : List Transfer → List (List ℕ) → Option Naming → CertificateStatus
+    → Type 0
 IsCertificateStatus batch settings None standing = standing ≡ Missing
 IsCertificateStatus batch settings (Some named) standing = IsProofOf batch settings named standing
 

@@ -5,7 +5,8 @@ ghost use Rattle.batch.specs.Text.{IsNumber};
 ghost use Rattle.link_graph.specs.declared.link.End.{End};
 ghost use Rattle.link_graph.specs.Counts.{module_at as module_of};
 ghost use Rattle.schedule_picture.specs.Elements.{Adds};
-ghost use Rattle.schedule_picture.specs.Cells.{kind_label, way_of, arrow_of, end_label, title_text, cell_text, transfer_cells, column_text};
+ghost use Rattle.schedule_picture.specs.Cells.{kind_label, way_of, arrow_of, end_label, title_text};
+ghost use Rattle.schedule_picture.specs.Cells.{cell_text, transfer_cells, column_text};
 
 use crate::elements::{push_coloured, push_text_start};
 use crate::layout::{CELL_HEIGHT, CELL_WIDTH, INSET, ROWS_TOP, column_left, half_below};

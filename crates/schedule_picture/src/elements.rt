@@ -1,7 +1,8 @@
 //! The elements of SVG that a picture is made of.
 
 ghost use Rattle.std.specs.Prelude.{OnOk};
-ghost use Rattle.schedule_picture.specs.Elements.{Adds, box_text, coloured_box, text_start, link_label};
+ghost use Rattle.schedule_picture.specs.Elements.{Adds, box_text, coloured_box, text_start};
+ghost use Rattle.schedule_picture.specs.Elements.{link_label};
 
 use link_graph::Link;
 use std::alloc::AllocError;

@@ -1,6 +1,7 @@
 //! Laws of pictures. They do nothing.
 
-ghost use Rattle.schedule_picture.specs.Laws.{NothingOverlaps, VerdictTellsFewest, TellsNeededChanges};
+ghost use Rattle.schedule_picture.specs.Laws.{NothingOverlaps, VerdictTellsFewest};
+ghost use Rattle.schedule_picture.specs.Laws.{TellsNeededChanges};
 
 /// In the picture of a schedule no cell lies over another, not even in part.
 pub fn nothing_overlaps()

@@ -4,7 +4,8 @@
 ghost use Rattle.std.specs.Prelude.{◌≡◌, ◌<◌, ◌≤◌, ◌^◌};
 ghost use Rattle.batch.specs.Text.{IsNumber};
 ghost use Rattle.link_graph.specs.declared.link.End.{End};
-ghost use Rattle.schedule_picture.specs.Places.{column_place, panel_place, panels_of, panel_width, half_place, width_of};
+ghost use Rattle.schedule_picture.specs.Places.{column_place, panel_place, panels_of, panel_width};
+ghost use Rattle.schedule_picture.specs.Places.{half_place, width_of};
 
 use link_graph::End;
 

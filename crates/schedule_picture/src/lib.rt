@@ -6,11 +6,12 @@
 //! the transfer's other side.
 //!
 //! [`draw`] gives one text, `picture_of` of `specs/Picture.antt`. No cell lies over another
-//! (`laws::nothing_overlaps`). [`certificate_status`] tells how the certificate of a schedule stands, or of
-//! what is no schedule of the batch the first fault of its settings. [`verdict_on`] tells how many transfers the busiest link has, how often
-//! the switch changes, the most partners of a link, and what prices show (`IsVerdict` of
-//! `specs/Verdicts.antt`). No schedule has fewer settings than there are such transfers
-//! (`laws::tells_fewest`), or fewer changes than such partners (`laws::tells_needed_changes`).
+//! (`laws::nothing_overlaps`). [`certificate_status`] tells how the certificate of a schedule
+//! stands, or of what is no schedule of the batch the first fault of its settings. [`verdict_on`]
+//! tells how many transfers the busiest link has, how often the switch changes, the most partners
+//! of a link, and what prices show (`IsVerdict` of `specs/Verdicts.antt`). No schedule has fewer
+//! settings than there are such transfers (`laws::tells_fewest`), or fewer changes than such
+//! partners (`laws::tells_needed_changes`).
 #![tactic(auto)]
 
 mod cells;

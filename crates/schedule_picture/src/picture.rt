@@ -4,7 +4,12 @@ ghost use Rattle.std.specs.Prelude.{◌≡◌, ◌<◌, ◌≤◌, ◌+◌, All,
 ghost use Rattle.batch.specs.Text.{IsNumber};
 ghost use Rattle.link_graph.specs.Schedules.{IsScheduleOf};
 ghost use Rattle.schedule_picture.specs.Elements.{Adds};
-ghost use Rattle.schedule_picture.specs.Picture.{bound_words, changes_words, busiest_words, length_words, heading_text, standing_words, shown_words, note_text, size_text, ground_text, title_part, caption_part, opening_text, rows_text, setting_text, columns_text, closing_text, picture_of};
+ghost use Rattle.schedule_picture.specs.Picture.{bound_words, changes_words, busiest_words};
+ghost use Rattle.schedule_picture.specs.Picture.{length_words, heading_text, standing_words};
+ghost use Rattle.schedule_picture.specs.Picture.{shown_words, note_text, size_text, ground_text};
+ghost use Rattle.schedule_picture.specs.Picture.{title_part, caption_part, opening_text, rows_text};
+ghost use Rattle.schedule_picture.specs.Picture.{setting_text, columns_text, closing_text};
+ghost use Rattle.schedule_picture.specs.Picture.{picture_of};
 
 use crate::cells::push_column;
 use crate::elements::push_link;
@@ -64,7 +69,8 @@ fn push_bound(
     write!(text, ", at least {least}")
 }
 
-/// Puts at the end of the text how often the schedule changes the switch, and what is shown of that.
+/// Puts at the end of the text how often the schedule changes the switch, and what is shown of
+/// that.
 fn push_changes(
     text: &mut String,
     changes: usize,

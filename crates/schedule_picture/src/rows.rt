@@ -2,7 +2,8 @@
 
 ghost use Rattle.std.specs.Prelude.{◌≡◌, ◌<◌, ◌≤◌, ◌^◌};
 ghost use Rattle.batch.specs.Batches.{IsBatch};
-ghost use Rattle.schedule_picture.specs.Places.{takes_part, row_of, row_place, legend_place, height_of, TakePart};
+ghost use Rattle.schedule_picture.specs.Places.{takes_part, row_of, row_place, legend_place};
+ghost use Rattle.schedule_picture.specs.Places.{height_of, TakePart};
 
 use crate::layout::{LEGEND_HEIGHT, ROW_HEIGHT, ROWS_TOP};
 use batch::{Batch, MAX_MODULES, Transfer};

@@ -5,10 +5,14 @@ ghost use Rattle.batch.specs.Text.{IsNumber};
 ghost use Rattle.link_graph.specs.declared.link.Link.{Link};
 ghost use Rattle.schedule_picture.specs.Places.{panels_of};
 ghost use Rattle.schedule_picture.specs.Elements.{Adds};
-ghost use Rattle.schedule_picture.specs.RowsText.{heading_at, headings_text, marks, label_text, looks_of, lane_title, lane_text, half_text, part_text, row_text};
+ghost use Rattle.schedule_picture.specs.RowsText.{heading_at, headings_text, marks, label_text};
+ghost use Rattle.schedule_picture.specs.RowsText.{looks_of, lane_title, lane_text, half_text};
+ghost use Rattle.schedule_picture.specs.RowsText.{part_text, row_text};
 
 use crate::elements::{push_box, push_coloured, push_link, push_text_start};
-use crate::layout::{HALF_HEIGHT, LABEL_WIDTH, ROWS_TOP, half_below, panel_columns, panel_left, panels};
+use crate::layout::{
+    HALF_HEIGHT, LABEL_WIDTH, ROWS_TOP, half_below, panel_columns, panel_left, panels,
+};
 use crate::rows::Rows;
 use batch::MAX_MODULES;
 use link_graph::{End, Link};

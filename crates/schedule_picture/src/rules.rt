@@ -7,7 +7,7 @@ ghost use Rattle.steady_schedule.specs.Changes.{are_partners, join_within as is_
 ghost use Rattle.schedule_picture.specs.Elements.{Adds};
 ghost use Rattle.schedule_picture.specs.Rules.{changes_at as is_change, rule_text};
 
-use crate::layout::{RULE_ABOVE, ROWS_TOP, column_left};
+use crate::layout::{ROWS_TOP, RULE_ABOVE, column_left};
 use crate::rows::Rows;
 use batch::Transfer;
 use link_graph::Schedule;

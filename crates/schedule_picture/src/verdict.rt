@@ -8,12 +8,14 @@ ghost use Rattle.link_graph.specs.declared.link.Link.{Link};
 ghost use Rattle.link_graph.specs.Counts.{uses};
 ghost use Rattle.link_graph.specs.Schedules.{IsScheduleOf};
 ghost use Rattle.link_graph.specs.Checks.{IsSettingsFault};
-ghost use Rattle.schedule_picture.specs.Verdicts.{uses_of, link_named, IsProofOf, IsCertificateStatus, AreMostPartners, IsLeastShown, IsVerdict};
+ghost use Rattle.schedule_picture.specs.Verdicts.{uses_of, link_named, IsProofOf};
+ghost use Rattle.schedule_picture.specs.Verdicts.{IsCertificateStatus, AreMostPartners};
+ghost use Rattle.schedule_picture.specs.Verdicts.{IsLeastShown, IsVerdict};
 
 use batch::Batch;
 use link_graph::{Certificate, CheckFault, Link, LinkGraph, Schedule, check_schedule};
 use std::alloc::{AllocError, Global};
-use steady_schedule::{count_changes, most_partners, best_price_table};
+use steady_schedule::{best_price_table, count_changes, most_partners};
 
 /// Whether a schedule has a certificate, and whether that shows that no schedule is shorter.
 #[derive(Clone, Copy)]
@@ -169,7 +171,8 @@ pub fn verdict_on(
     standing: CertificateStatus,
 ) -> Result<Verdict, AllocError>
     requires schedule { IsScheduleOf batch.now schedule.now }
-    requires standing { IsCertificateStatus batch.now schedule.now (option_copied certificate) standing }
+    requires standing { IsCertificateStatus batch.now schedule.now (option_copied certificate)
+        standing }
     ensures { IfOk result (IsVerdict batch.now schedule.now (option_copied certificate.entry)) }
 {
     let graph = LinkGraph::of(batch)?;

@@ -40,16 +40,29 @@ latch_sync =
 pub token_send : (a : NamedLft) (T : RattleType) → IsSend (OnceToken.the_row a T)
 token_send a T = once_token.the_send a T
 
-exchange_sync : (L K E Q : RattleType) (n : ExchangeName.Ghosts L.Denot) (h : HistoryName.Ghosts L.Denot) (l : Ledger.Ghosts L.Denot) (g : EntryLog.Ghosts K.Denot) (e : PendingEntries.Ghosts E.Denot) (f : EntryLog.Ghosts E.Denot) (q : Recorder.Ghosts Q.Denot)
-    → IsSend K → IsSend E → IsSend Q → IsSync (Shared.the_row L MemoryPort.the_row PlainWires.the_row OpenGate.the_row K PlainWire.the_row E Q n l h port.ghosts wires.ghosts wire.ghosts g e f q)
+exchange_sync : (L K E Q : RattleType) (n : ExchangeName.Ghosts L.Denot) (h : HistoryName.Ghosts L.Denot) (l : Ledger.Ghosts L.Denot)
+    (g : EntryLog.Ghosts K.Denot) (e : PendingEntries.Ghosts E.Denot) (f : EntryLog.Ghosts E.Denot) (q : Recorder.Ghosts Q.Denot)
+    → IsSend K → IsSend E → IsSend Q → IsSync (Shared.the_row L MemoryPort.the_row PlainWires.the_row OpenGate.the_row K PlainWire.the_row E Q n l h port.ghosts
+    wires.ghosts wire.ghosts g e f q)
 exchange_sync L K E Q n h l g e f q sk se sq =
-    any_shared_sync L n h l MemoryPort.the_row PlainWires.the_row OpenGate.the_row K PlainWire.the_row port.ghosts wires.ghosts wire.ghosts E Q g e f q memory_port.the_send plain_wires.the_send open_gate.the_send sk se sq
+    any_shared_sync L n h l MemoryPort.the_row PlainWires.the_row OpenGate.the_row K PlainWire.the_row port.ghosts wires.ghosts wire.ghosts E Q g e f q
+    memory_port.the_send plain_wires.the_send open_gate.the_send sk se sq
 
-pub context_sync : (a : NamedLft) (L R D K E Q : RattleType) (n : ExchangeName.Ghosts L.Denot) (g : EntryLog.Ghosts K.Denot) (e : PendingEntries.Ghosts E.Denot) (f : EntryLog.Ghosts E.Denot) (q : Recorder.Ghosts Q.Denot) (l : Ledger.Ghosts L.Denot) (h : HistoryName.Ghosts L.Denot)
+pub context_sync : (a : NamedLft) (L R D K E Q : RattleType) (n : ExchangeName.Ghosts L.Denot) (g : EntryLog.Ghosts K.Denot) (e : PendingEntries.Ghosts E.Denot)
+    (f : EntryLog.Ghosts E.Denot) (q : Recorder.Ghosts Q.Denot) (l : Ledger.Ghosts L.Denot) (h : HistoryName.Ghosts L.Denot)
     → IsSync R → IsSync D → IsSend K → IsSend E → IsSend Q → IsSync (HostContext.the_row a L R D K E Q n l h g e f q)
 context_sync a L R D K E Q n g e f q l h r d sk se sq =
     let T = HostContext.the_type a L R D K E Q n l h g e f q in
     let x = exchange_sync L K E Q n h l g e f q sk se sq in
     let o = latch_sync in
     recorded_sync (HostContext.the_field a L R D K E Q n l h g e f q).row _ _ T.to_one
-    (struct_sync (shape T) (search (crosses, sendable) depth 20, (search (crosses, sendable) depth 20, (search (crosses, sendable) depth 20, (search (crosses, sendable) depth 20, (search (crosses, sendable) depth 20, (search (crosses, sendable) depth 20, tt)))))))
+    (struct_sync (shape T) (
+      search (crosses, sendable) depth 20,
+      (
+        search (crosses, sendable) depth 20,
+        (
+          search (crosses, sendable) depth 20,
+          (search (crosses, sendable) depth 20, (search (crosses, sendable) depth 20, (search (crosses, sendable) depth 20, tt))),
+        ),
+      ),
+    ))

@@ -1,5 +1,6 @@
 -- The sessions of a host's clients, and the seats of their exchange.
-use Rattle.std.proofs.Common.{◌≡◌, ℕ, ◌+◌, ◌<◌, ◌≤◌, zero, suc, Bool, true, false, ◌||◌, List, [], ◌∷◌, ◌++◌, length, get_or, map, All, Option, Some, None, refl, sym, ap, ap₂, ◌∙◌, subst, drop, take, append-nil, inl, inr, arith}
+use Rattle.std.proofs.Common.{◌≡◌, ℕ, ◌+◌, ◌<◌, ◌≤◌, zero, suc, Bool, true, false, ◌||◌, List, [], ◌∷◌, ◌++◌, length, get_or, map, All, Option, Some, None, refl, sym, ap, ap₂, ◌∙◌, subst, drop, take}
+use Rattle.std.proofs.Common.{append-nil, inl, inr, arith}
 use Rattle.std.specs.List.{range_with_len, list_any, flat_map}
 use Rattle.std.proofs.lemmas.Bool.{cases_lt}
 use Rattle.std.proofs.lemmas.List.{length-map, length-take-le, append_assoc, map-append, take_more}
@@ -32,23 +33,27 @@ each_length P [] [] each = refl
 each_length P (x ∷ xs) (y ∷ ys) each = ap suc (each_length P xs ys each.1)
 each_length P xs ys each = absurd each
 
-each_at : {A B : Type 0} (P : A → B → Type 0) (xs : List A) (ys : List B) → AreEach P xs ys → (k : ℕ) (d : A) (e : B) → k < length xs → P (get_or xs k d) (get_or ys k e)
+each_at : {A B : Type 0} (P : A → B → Type 0) (xs : List A) (ys : List B) → AreEach P xs ys → (k : ℕ) (d : A) (e : B) → k < length xs
+    → P (get_or xs k d) (get_or ys k e)
 each_at P [] ys each k d e lt = absurd (omega (arith, lt))
 each_at P (x ∷ xs) [] each k d e lt = absurd each
 each_at P (x ∷ xs) (y ∷ ys) each zero d e lt = each.0
 each_at P (x ∷ xs) (y ∷ ys) each (suc k) d e lt = each_at P xs ys each.1 k d e (omega (arith, lt))
 
-pub each_push : {A B : Type 0} (P : A → B → Type 0) (xs : List A) (ys : List B) (x : A) (y : B) → AreEach P xs ys → P x y → AreEach P (xs ++ x ∷ []) (ys ++ y ∷ [])
+pub each_push : {A B : Type 0} (P : A → B → Type 0) (xs : List A) (ys : List B) (x : A) (y : B) → AreEach P xs ys → P x y
+    → AreEach P (xs ++ x ∷ []) (ys ++ y ∷ [])
 each_push P [] [] x y each one = (one, tt)
 each_push P (a ∷ xs) (b ∷ ys) x y each one = (each.0, each_push P xs ys x y each.1 one)
 each_push P xs ys x y each one = absurd each
 
 -- the first of what is left
-each_split : {A B : Type 0} (P : A → B → Type 0) (rest : List A) (y : B) (more : List B) → AreEach P rest (y ∷ more) → (x : A) × (xs : List A) × (rest ≡ x ∷ xs) × P x y × AreEach P xs more
+each_split : {A B : Type 0} (P : A → B → Type 0) (rest : List A) (y : B) (more : List B) → AreEach P rest (y ∷ more) → (x : A) × (xs : List A) × (rest ≡ x ∷ xs)
+    × P x y × AreEach P xs more
 each_split P [] y more each = absurd each
 each_split P (x ∷ xs) y more each = (x, xs, refl, each.0, each.1)
 
-pub each_first : {A B : Type 0} (P : A → B → Type 0) (rest : List A) (ys more : List B) (y : B) → AreEach P rest ys → ys ≡ y ∷ more → (x : A) × (xs : List A) × (rest ≡ x ∷ xs) × P x y × AreEach P xs more
+pub each_first : {A B : Type 0} (P : A → B → Type 0) (rest : List A) (ys more : List B) (y : B) → AreEach P rest ys → ys ≡ y ∷ more → (x : A) × (xs : List A)
+    × (rest ≡ x ∷ xs) × P x y × AreEach P xs more
 each_first {A} {B} P rest ys more y each is = each_split P rest y more (subst (λ (zs : List B). AreEach P rest zs) is each)
 
 -- all are left
@@ -56,7 +61,8 @@ pub each_begin : {A B : Type 0} (P : A → B → Type 0) (xs : List A) (ys zs : 
 each_begin {A} {B} P xs ys zs is each = subst (λ (vs : List B). AreEach P xs vs) (sym is) each
 
 -- from none to all
-pub each_from_none : {A B : Type 0} (P : A → B → Type 0) (xs left : List A) (none ys : List B) → none ≡ [] → left ≡ xs → ((done : List A) → AreEach P done none → AreEach P (done ++ left) ys) → AreEach P xs ys
+pub each_from_none : {A B : Type 0} (P : A → B → Type 0) (xs left : List A) (none ys : List B) → none ≡ [] → left ≡ xs
+    → ((done : List A) → AreEach P done none → AreEach P (done ++ left) ys) → AreEach P xs ys
 each_from_none P xs left none ys empty all each = rw all at each [] (rw empty tt)
 
 -- none is left
@@ -81,29 +87,34 @@ all_new x start n seats new = record { each = λ k d lt. (all_fresh x start n se
 -- ---- all sessions
 
 -- each seat of a new exchange has had its session
-pub all_hosted : {C : Type 0} (loses : Bool) (x : Exchange) (start : ℕ) (g : KnownClients) (received : C → Option (List ℕ)) (seats : List SeatState) (ss : List (Ended C))
+pub all_hosted : {C : Type 0} (loses : Bool) (x : Exchange) (start : ℕ) (g : KnownClients) (received : C → Option (List ℕ)) (seats : List SeatState)
+    (ss : List (Ended C))
     → AreNew x.word start g.clients seats → AreEach (IsOfSeat loses x g received) seats ss → AreHostedSessionsAt loses x start g received ss
 all_hosted {C} loses x start g received seats ss new each =
     let n = g.clients in
     let len : length ss ≡ length seats = each_length (IsOfSeat loses x g received) seats ss each in
     let at : (k : ℕ) (s : Ended C) → k < length ss → IsOfSeat loses x g received (new_seat x.word start k (parts_at n k)) (get_or ss k s) =
     λ k s lt. (let d = new_seat x.word start k (parts_at n k) in
-    subst (λ (seat : SeatState). IsOfSeat loses x g received seat (get_or ss k s)) (new.each k d (omega (arith, len, new.count, lt))) (each_at (IsOfSeat loses x g received) seats ss each k d s (omega (arith, len, lt)))) in
+    subst (λ (seat : SeatState). IsOfSeat loses x g received seat (get_or ss k s)) (new.each k d (omega (arith, len, new.count, lt)))
+    (each_at (IsOfSeat loses x g received) seats ss each k d s (omega (arith, len, lt)))) in
     let back = seats_back x start n seats ss (λ s. s.0) new len (λ k s lt. (at k s lt).same) in
     record {
       all_seats = back.0;
       of_clients = record {
         numbers = map-map (λ (v : HostedSession). v.part.session) (hosted_session received) ss ∙ back.1;
-        each = All-map (λ (v : HostedSession). IsHostedSession (begun_at loses x start) g v.part v.end) (hosted_session received) ss (λ k s lt. (at k s lt).its);
+        each = All-map (λ (v : HostedSession). IsHostedSession (begun_at loses x start) g v.part v.end) (hosted_session received) ss
+            (λ k s lt. (at k s lt).its);
       };
     }
 
 -- ---- a session
 
 -- what a session between the files of its client leaves
-pub was_served : {C : Type 0} (loses : Bool) (x : Exchange) (g : KnownClients) (received : C → Option (List ℕ)) (old new : SeatState) (n : ℕ) (before after held holds : Option (List ℕ)) (fault : Option ServeFault) (receipt : C)
+pub was_served : {C : Type 0} (loses : Bool) (x : Exchange) (g : KnownClients) (received : C → Option (List ℕ)) (old new : SeatState) (n : ℕ)
+    (before after held holds : Option (List ℕ)) (fault : Option ServeFault) (receipt : C)
     → n ≡ old.session → before ≡ g.says n → held ≡ g.contains n → received receipt ≡ holds → IsSameSeat old new
-    → ((told : List ℕ) × Appends held holds told × IsServedSession (begun_at loses x old.seen) before after (record { part = part_of new; told = told; fault = fault }))
+    → ((told : List ℕ) × Appends held holds told × IsServedSession (begun_at loses x old.seen) before after
+    (record { part = part_of new; told = told; fault = fault }))
     → IsOfSeat loses x g received old (new, Served fault receipt)
 was_served loses x g received old new n before after held holds fault receipt at says held_is closed same s =
     let its : n ≡ new.session = at ∙ sym same.session in
@@ -112,19 +123,23 @@ was_served loses x g received old new n before after held holds fault receipt at
       its = record {
         rest = after;
         told = s.0;
-        session = subst (λ (b : Option (List ℕ)). IsServedSession (begun_at loses x old.seen) b after (record { part = part_of new; told = s.0; fault = fault })) (says ∙ ap g.says its) s.2;
-        wrote = subst (λ (w : Option (List ℕ)). Appends w (received receipt) s.0) (held_is ∙ ap g.contains its) (subst (λ (w : Option (List ℕ)). Appends held w s.0) (sym closed) s.1);
+        session = subst (λ (b : Option (List ℕ)). IsServedSession (begun_at loses x old.seen) b after
+            (record { part = part_of new; told = s.0; fault = fault })) (says ∙ ap g.says its) s.2;
+        wrote = subst (λ (w : Option (List ℕ)). Appends w (received receipt) s.0) (held_is ∙ ap g.contains its)
+            (subst (λ (w : Option (List ℕ)). Appends held w s.0) (sym closed) s.1);
       };
     }
 
 -- nothing has come back
-pub none_back : {C : Type 0} (loses : Bool) (x : Exchange) (g : KnownClients) (received : C → Option (List ℕ)) (b : Bool) (back : List SeatState) (endings : List (Ending C))
+pub none_back : {C : Type 0} (loses : Bool) (x : Exchange) (g : KnownClients) (received : C → Option (List ℕ)) (b : Bool) (back : List SeatState)
+    (endings : List (Ending C))
     → back ≡ [] → endings ≡ [] → HaveReturned loses x g received b [] back endings
 none_back loses x g received true back endings seats ends = ([], tt, seats, ends)
 none_back loses x g received false back endings seats ends = (seats, ends)
 
 -- the session of one more seat, of those that have come back
-pub one_more_back : {C : Type 0} (loses : Bool) (x : Exchange) (g : KnownClients) (received : C → Option (List ℕ)) (b : Bool) (seats back after : List SeatState) (endings : List (Ending C)) (seat one : SeatState) (e : Ending C)
+pub one_more_back : {C : Type 0} (loses : Bool) (x : Exchange) (g : KnownClients) (received : C → Option (List ℕ)) (b : Bool)
+    (seats back after : List SeatState) (endings : List (Ending C)) (seat one : SeatState) (e : Ending C)
     → HaveReturned loses x g received b seats back endings → HasReturned loses x g received b seat one (Some e) → after ≡ back ++ one ∷ []
     → (ends : List (Ending C)) → ends ≡ endings ++ e ∷ [] → HaveReturned loses x g received b (seats ++ seat ∷ []) after ends
 one_more_back {C} loses x g received true seats back after endings seat one e all its pushed ends put =
@@ -137,34 +152,42 @@ one_more_back {C} loses x g received true seats back after endings seat one e al
 one_more_back loses x g received false seats back after endings seat one e all its pushed ends put = absurd its
 
 -- or one more seat as it was
-pub one_more_idle : {C : Type 0} (loses : Bool) (x : Exchange) (g : KnownClients) (received : C → Option (List ℕ)) (b : Bool) (seats back after : List SeatState) (endings : List (Ending C)) (seat one : SeatState)
+pub one_more_idle : {C : Type 0} (loses : Bool) (x : Exchange) (g : KnownClients) (received : C → Option (List ℕ)) (b : Bool)
+    (seats back after : List SeatState) (endings : List (Ending C)) (seat one : SeatState)
     → HaveReturned loses x g received b seats back endings → HasReturned loses x g received b seat one None → after ≡ back ++ one ∷ []
     → HaveReturned loses x g received b (seats ++ seat ∷ []) after endings
 one_more_idle loses x g received true seats back after endings seat one all its pushed = absurd its
-one_more_idle loses x g received false seats back after endings seat one all its pushed = (pushed ∙ ap₂ (λ (ss : List SeatState) (s : SeatState). ss ++ s ∷ []) all.0 its, all.1)
+one_more_idle loses x g received false seats back after endings seat one all its pushed =
+    (pushed ∙ ap₂ (λ (ss : List SeatState) (s : SeatState). ss ++ s ∷ []) all.0 its, all.1)
 
 -- so many have had their session
 count_hosted : {C : Type 0} (loses : Bool) (x : Exchange) (start : ℕ) (g : KnownClients) (received : C → Option (List ℕ)) (ss : List (Ended C))
     → AreHostedSessionsAt loses x start g received ss → length ss ≡ g.clients
 count_hosted {C} loses x start g received ss all =
-    sym (length-map ss (λ (s : Ended C). s.0.session)) ∙ sym (ap length (map-map (λ (v : HostedSession). v.part.session) (hosted_session received) ss)) ∙ ap length all.of_clients.numbers ∙ length-range_with_len 0 g.clients
+    sym (length-map ss (λ (s : Ended C). s.0.session)) ∙ sym (ap length (map-map (λ (v : HostedSession). v.part.session) (hosted_session received) ss))
+    ∙ ap length all.of_clients.numbers ∙ length-range_with_len 0 g.clients
 
 -- where it was decided that sessions begin, each client has had its session
-pub begun_all : {C : Type 0} (loses : Bool) (x : Exchange) (start : ℕ) (g : KnownClients) (received : C → Option (List ℕ)) (decided : Option ThreadsStarted) (seats back : List SeatState) (endings : List (Ending C))
-    → begins g.clients decided ≡ true → HaveReturned loses x g received (begins g.clients decided) seats back endings → AreNew x.word start g.clients seats → AreAllHosted loses x start g received back endings
+pub begun_all : {C : Type 0} (loses : Bool) (x : Exchange) (start : ℕ) (g : KnownClients) (received : C → Option (List ℕ)) (decided : Option ThreadsStarted)
+    (seats back : List SeatState) (endings : List (Ending C))
+    → begins g.clients decided ≡ true → HaveReturned loses x g received (begins g.clients decided) seats back endings → AreNew x.word start g.clients seats
+    → AreAllHosted loses x start g received back endings
 begun_all loses x start g received decided seats back endings is all new =
     let h = subst (λ (b : Bool). HaveReturned loses x g received b seats back endings) is all in
     (h.0, all_hosted loses x start g received seats h.0 new h.1, h.2, h.3)
 
 -- else the seats are as they were
-pub begun_none : {C : Type 0} (loses : Bool) (x : Exchange) (start : ℕ) (g : KnownClients) (received : C → Option (List ℕ)) (decided : Option ThreadsStarted) (seats back : List SeatState) (endings : List (Ending C))
-    → begins g.clients decided ≡ false → HaveReturned loses x g received (begins g.clients decided) seats back endings → AreNew x.word start g.clients seats → AreNew x.word start g.clients back
+pub begun_none : {C : Type 0} (loses : Bool) (x : Exchange) (start : ℕ) (g : KnownClients) (received : C → Option (List ℕ)) (decided : Option ThreadsStarted)
+    (seats back : List SeatState) (endings : List (Ending C))
+    → begins g.clients decided ≡ false → HaveReturned loses x g received (begins g.clients decided) seats back endings → AreNew x.word start g.clients seats
+    → AreNew x.word start g.clients back
 begun_none loses x start g received decided seats back endings is all new =
     let h = subst (λ (b : Bool). HaveReturned loses x g received b seats back endings) is all in
     subst (AreNew x.word start g.clients) (sym h.0) new
 
 -- each client has one end
-pub as_many_ends : {C : Type 0} (loses : Bool) (x : Exchange) (start : ℕ) (g : KnownClients) (received : C → Option (List ℕ)) (seats : List SeatState) (endings : List (Ending C))
+pub as_many_ends : {C : Type 0} (loses : Bool) (x : Exchange) (start : ℕ) (g : KnownClients) (received : C → Option (List ℕ)) (seats : List SeatState)
+    (endings : List (Ending C))
     → AreAllHosted loses x start g received seats endings → length endings ≡ g.clients
 as_many_ends {C} loses x start g received seats endings all =
     let How : Ended C → Ending C = λ s. s.1 in
@@ -186,7 +209,8 @@ same_failures received [] = refl
 same_failures received (e ∷ es) = ap₂ ◌||◌ (same_failure received e) (same_failures received es)
 
 -- what is printed by their numbers is what is printed of sessions that have these
-ends_are : {C : Type 0} (g : KnownClients) (received : C → Option (List ℕ)) (ss : List (Ended C)) (first : ℕ) → map (λ (s : Ended C). s.0.session) ss ≡ range_with_len first (length ss)
+ends_are : {C : Type 0} (g : KnownClients) (received : C → Option (List ℕ)) (ss : List (Ended C)) (first : ℕ) → map (λ (s : Ended C). s.0.session) ss
+    ≡ range_with_len first (length ss)
     → ends_text g first (map (λ (s : Ended C). s.1) ss) ≡ flat_map (hosted_text g) (map (hosted_session received) ss)
 ends_are g received [] first numbers = refl
 ends_are {C} g received (s ∷ ss) first numbers =
@@ -197,7 +221,8 @@ ends_are {C} g received (s ∷ ss) first numbers =
     (ends_are g received ss (first + 1) more)
 
 -- one more of them is printed
-pub ends_push : {C : Type 0} (g : KnownClients) (first : ℕ) (es : List (Ending C)) (e : Ending C) → ends_text g first (es ++ e ∷ []) ≡ ends_text g first es ++ (hosted_heading g (first + length es) ++ ending_line e)
+pub ends_push : {C : Type 0} (g : KnownClients) (first : ℕ) (es : List (Ending C)) (e : Ending C) → ends_text g first (es ++ e ∷ []) ≡ ends_text g first es
+    ++ (hosted_heading g (first + length es) ++ ending_line e)
 ends_push g first [] e = append-nil (hosted_heading g first ++ ending_line e) ∙ ap (λ (n : ℕ). hosted_heading g n ++ ending_line e) (omega arith)
 ends_push g first (d ∷ es) e =
     let here : List ℕ = hosted_heading g first ++ ending_line d in
@@ -206,7 +231,8 @@ ends_push g first (d ∷ es) e =
     ∙ ap (λ (n : ℕ). ends_text g first (d ∷ es) ++ (hosted_heading g n ++ ending_line e)) (omega arith)
 
 -- those of the first of them and one more
-pub one_more_end : {C : Type 0} (g : KnownClients) (es : List (Ending C)) (i client : ℕ) (e : Ending C) (before after : List ℕ) → i < length es → client ≡ i → e ≡ get_or es i e
+pub one_more_end : {C : Type 0} (g : KnownClients) (es : List (Ending C)) (i client : ℕ) (e : Ending C) (before after : List ℕ) → i < length es → client ≡ i → e
+    ≡ get_or es i e
     → before ≡ ends_text g 0 (take i es) → after ≡ before ++ (hosted_heading g client ++ ending_line e) → after ≡ ends_text g 0 (take (i + 1) es)
 one_more_end {C} g es i client e before after lt at is framed more =
     let count : client ≡ 0 + length (take i es) = omega (arith, at, lt, length-take-le i es (omega (arith, lt))) in
@@ -232,7 +258,8 @@ room_within g k (suc n) lt = elim (cases_lt k n) [
 -- ---- the exchange is closed
 
 -- what is printed of the sessions is what the host answers
-pub are_hosted : {C : Type 0} (loses : Bool) (opening : Store) (earlier : List Entry) (was : BookView) (x : Exchange) (start : ℕ) (g : KnownClients) (received : C → Option (List ℕ))
+pub are_hosted : {C : Type 0} (loses : Bool) (opening : Store) (earlier : List Entry) (was : BookView) (x : Exchange) (start : ℕ) (g : KnownClients)
+    (received : C → Option (List ℕ))
     (seats : List SeatState) (endings : List (Ending C)) (text : List ℕ) (failed : Bool) (printed : Printed) (left : BookView)
     → AreAllHosted loses x start g received seats endings → begun_at loses x start ≡ beginning loses was → was.opening ≡ opening → was.history ≡ earlier
     → text ≡ ends_text g 0 endings → failed ≡ list_any has_failed endings
@@ -242,10 +269,13 @@ are_hosted {C} loses opening earlier was x start g received seats endings text f
     let Seat : Ended C → SeatState = λ s. s.0 in
     let How : Ended C → Ending C = λ s. s.1 in
     let sessions : List HostedSession = map (hosted_session received) ss in
-    let ends : map (λ (v : HostedSession). v.end) sessions ≡ map (seen_end received) endings = map-map (λ (v : HostedSession). v.end) (hosted_session received) ss ∙ sym (map-map (seen_end received) How ss) ∙ ap (map (seen_end received)) (sym all.3) in
-    let parts : map part_of seats ≡ map (λ (v : HostedSession). v.part) sessions = ap (map part_of) all.2 ∙ map-map part_of Seat ss ∙ sym (map-map (λ (v : HostedSession). v.part) (hosted_session received) ss) in
+    let ends : map (λ (v : HostedSession). v.end) sessions ≡ map (seen_end received) endings = map-map (λ (v : HostedSession). v.end) (hosted_session received)
+    ss ∙ sym (map-map (seen_end received) How ss) ∙ ap (map (seen_end received)) (sym all.3) in
+    let parts : map part_of seats ≡ map (λ (v : HostedSession). v.part) sessions = ap (map part_of) all.2 ∙ map-map part_of Seat ss
+    ∙ sym (map-map (λ (v : HostedSession). v.part) (hosted_session received) ss) in
     let failures : failed ≡ list_any has_failed (map (seen_end received) endings) = fails ∙ sym (same_failures received endings) in
-    let of_ss : map (λ (s : Ended C). s.0.session) ss ≡ range_with_len 0 g.clients = sym (map-map (λ (v : HostedSession). v.part.session) (hosted_session received) ss) ∙ all.1.of_clients.numbers in
+    let of_ss : map (λ (s : Ended C). s.0.session) ss ≡ range_with_len 0 g.clients =
+    sym (map-map (λ (v : HostedSession). v.part.session) (hosted_session received) ss) ∙ all.1.of_clients.numbers in
     let count : length ss ≡ g.clients = count_hosted loses x start g received ss all.1 in
     let numbers : map (λ (s : Ended C). s.0.session) ss ≡ range_with_len 0 (length ss) = of_ss ∙ ap (range_with_len 0) (sym count) in
     let text_is : text ≡ flat_map (hosted_text g) sessions = framed ∙ ap (ends_text g 0) all.3 ∙ ends_are g received ss 0 numbers in

@@ -32,7 +32,8 @@ pub record IsAlone (x : Exchange) (start : ℕ) (rest : List SeatState) (seat : 
   pub first : seat.session ≡ 0
   pub parts : seat.parts ≡ ALL_PARTS
 
-pub alone : (x : Exchange) (start : ℕ) (all rest : List SeatState) (seat : SeatState) → AreNew x.word start 1 all → all ≡ rest ++ seat ∷ [] → IsAlone x start rest seat
+pub alone : (x : Exchange) (start : ℕ) (all rest : List SeatState) (seat : SeatState) → AreNew x.word start 1 all → all ≡ rest ++ seat ∷ []
+    → IsAlone x start rest seat
 alone x start all rest seat new is =
     let nothing : rest ≡ [] = empty_front rest seat (sym (ap length is) ∙ new.count) in
     let one : all ≡ seat ∷ [] = is ∙ ap (λ (ys : List SeatState). ys ++ seat ∷ []) nothing in
@@ -47,7 +48,8 @@ alone x start all rest seat new is =
     }
 
 -- it comes back as the seat of the same session
-pub all_there : (x : Exchange) (start : ℕ) (rest : List SeatState) (old new : SeatState) → IsAlone x start rest old → IsSameSeat old new → AreAllSeats x (rest ++ new ∷ [])
+pub all_there : (x : Exchange) (start : ℕ) (rest : List SeatState) (old new : SeatState) → IsAlone x start rest old → IsSameSeat old new
+    → AreAllSeats x (rest ++ new ∷ [])
 all_there x start rest old new one same =
     let kept : new.exchange ≡ Some x.word = same.exchange ∙ one.fresh.exchange in
     let each = all_of_one (λ (s : SeatState). s.exchange ≡ Some x.word) new kept in
@@ -55,11 +57,15 @@ all_there x start rest old new one same =
     subst (λ (ys : List SeatState). AreAllSeats x (ys ++ new ∷ [])) (sym one.nothing) (record { each = each; parts = omega (arith, parts) })
 
 -- what a session from it leaves is what was talked
-pub has_talked : (loses : Bool) (opening : Store) (earlier : List Entry) (was : BookView) (x : Exchange) (start : ℕ) (rest : List SeatState) (old new : SeatState) (before after : Option (List ℕ)) (line told : List ℕ) (fault : Option ServeFault) (failed : Bool)
-    → IsAlone x start rest old → IsSameSeat old new → begun_at loses x old.seen ≡ beginning loses was → was.opening ≡ opening → was.history ≡ earlier → line ≡ end_line fault → failed ≡ is_some fault
+pub has_talked : (loses : Bool) (opening : Store) (earlier : List Entry) (was : BookView) (x : Exchange) (start : ℕ) (rest : List SeatState)
+    (old new : SeatState) (before after : Option (List ℕ)) (line told : List ℕ) (fault : Option ServeFault) (failed : Bool)
+    → IsAlone x start rest old → IsSameSeat old new → begun_at loses x old.seen ≡ beginning loses was → was.opening ≡ opening → was.history ≡ earlier → line
+    ≡ end_line fault → failed ≡ is_some fault
     → IsServedSession (begun_at loses x old.seen) before after (record { part = part_of new; told = told; fault = fault })
-    → (printed : Printed) (left : BookView) → IsClosing loses opening earlier (map part_of (rest ++ new ∷ [])) line failed printed left → HasTalked loses was before after told printed left
-has_talked loses opening earlier was x start rest old new before after line told fault failed one same begun words entries said fails session printed left closed =
+    → (printed : Printed) (left : BookView) → IsClosing loses opening earlier (map part_of (rest ++ new ∷ [])) line failed printed left
+    → HasTalked loses was before after told printed left
+has_talked loses opening earlier was x start rest old new before after line told fault failed one same begun words entries said fails session printed left
+    closed =
     let t : Transcript = record { part = part_of new; told = told; fault = fault } in (
       t,
       same.session ∙ one.first,

@@ -1,5 +1,6 @@
 -- The history of an exchange, and the parts of it that its sessions have.
-use Rattle.std.specs.Prelude.{◌≡◌, ℕ, ◌≤◌, if◌then◌else◌, Bool, true, false, List, ◌++◌, length, All, sum_by}
+use Rattle.std.specs.Prelude.{◌≡◌, ℕ, ◌≤◌, if◌then◌else◌, Bool, true, false, List, ◌++◌, length}
+use Rattle.std.specs.Prelude.{All, sum_by}
 use Rattle.module_memory.specs.Store.{Store}
 use Rattle.batch_book.specs.declared.entry.Entry.{Entry}
 use Rattle.batch_book.specs.History.{BookView, AreUnstopped, IsReplay, IsPrefix}

@@ -1,5 +1,6 @@
 -- What `host` leaves.
-use Rattle.std.specs.Prelude.{◌≡◌, ◌⊎◌, ℕ, Bool, true, List, [], ◌++◌, codes, flat_map, map, All, Option, is_some}
+use Rattle.std.specs.Prelude.{◌≡◌, ◌⊎◌, ℕ, Bool, true, List, [], ◌++◌, codes, flat_map, map, All}
+use Rattle.std.specs.Prelude.{Option, is_some}
 use Rattle.std.specs.Fmt.{decimal}
 use Rattle.std.specs.Io.KnownBytes.{Appends}
 use Rattle.std.specs.List.{list_any, range_with_len}
@@ -86,7 +87,8 @@ has_failed (Served fault receipt) = is_some fault
 
 -- the sessions of the clients, which ended so, on one exchange over a book that was so, and the
 -- book that they leave
-abbrev pub AreHosted : Bool → BookView → KnownClients → List SessionEnd → Printed → BookView → Type 0
+abbrev pub AreHosted : Bool → BookView → KnownClients → List SessionEnd → Printed → BookView
+    → Type 0
 AreHosted loses was g ends printed left =
     (sessions : List HostedSession) × (map (λ v. v.end) sessions ≡ ends)
     × AreHostedSessions (beginning loses was) g sessions

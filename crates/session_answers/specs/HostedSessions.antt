@@ -1,5 +1,6 @@
 -- The sessions of a host's clients while the exchange is open.
-use Rattle.std.specs.Prelude.{◌≡◌, ℕ, ◌≤◌, ◌==◌, Bool, true, false, List, [], ◌∷◌, map, Option, Some, None, vec_capacity}
+use Rattle.std.specs.Prelude.{◌≡◌, ℕ, ◌≤◌, ◌==◌, Bool, true, false, List, [], ◌∷◌, map, Option}
+use Rattle.std.specs.Prelude.{Some, None, vec_capacity}
 use Rattle.batch_book.specs.Exchanges.{Exchange}
 use Rattle.batch_book.specs.Seats.{SeatState, IsSameSeat}
 use Rattle.session_answers.specs.declared.threads_started.ThreadsStarted.{ThreadsStarted}
@@ -11,7 +12,8 @@ use Rattle.session_answers.specs.declared.host_threads.SeatThread.{SeatThread}
 use Rattle.session_answers.specs.declared.host_threads.SeatThread.TheVariants.{Started, Refused}
 use Rattle.session_answers.specs.Histories.{part_of}
 use Rattle.session_answers.specs.Hosting.{AreAllSeats, begun_at}
-use Rattle.session_answers.specs.HostAnswers.{KnownClients, HostedSession, IsHostedSession, AreHostedSessions, seen_end}
+use Rattle.session_answers.specs.HostAnswers.{KnownClients, HostedSession, IsHostedSession}
+use Rattle.session_answers.specs.HostAnswers.{AreHostedSessions, seen_end}
 
 -- the seat of a session that has ended, and how it ended
 abbrev pub Ended : Type 0 → Type 0
@@ -61,9 +63,10 @@ HasReturned loses x g received begun seat back end = ⊥
 
 -- what the thread of this seat gives back, which waited for this latch
 pub record IsReturned {L C : Type 0} (loses : Bool) (x : Exchange) (g : KnownClients)
-    (received : C → Option (List ℕ)) (latch : ℕ) (seat : SeatState) (r : Returned L C) : Type 0 where
-  pub its_latch : r.decided.of ≡ latch
-  pub has : HasReturned loses x g received (begins g.clients r.decided.value) seat r.seat r.ending
+    (received : C → Option (List ℕ)) (latch : ℕ) (seat : SeatState) (r : Returned L C) : Type 0
+  where
+    pub its_latch : r.decided.of ≡ latch
+    pub has : HasReturned loses x g received (begins g.clients r.decided.value) seat r.seat r.ending
 
 -- a promise of this seat at a host
 pub record IsOf {L D K E Q : Type 0} (known : D → KnownClients) (x : Exchange) (g : KnownClients)

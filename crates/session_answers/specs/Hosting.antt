@@ -3,18 +3,18 @@ use Rattle.std.specs.Prelude.{◌≡◌, ℕ, ◌<◌, Bool, false, List, [], ma
 use Rattle.progress_word.specs.declared.limits.TheConstants.{ALL_PARTS}
 use Rattle.batch_book.specs.Exchanges.{Exchange}
 use Rattle.batch_book.specs.Seats.{SeatState, parts_of}
-use Rattle.session_answers.specs.declared.session.Session.{Session}
+use Rattle.session_answers.specs.declared.session.ScriptSession.{ScriptSession}
 use Rattle.session_answers.specs.Frames.{Transcript, session_text}
 use Rattle.session_answers.specs.Histories.{part_of}
 use Rattle.session_answers.specs.Serving.{AreSessionsOf}
 use Rattle.session_answers.specs.Sessions.{Beginning}
 
 -- what contracts see of a session that has ended
-abbrev pub transcript : {L : Type 0} → Session L → Transcript
+abbrev pub transcript : {L : Type 0} → ScriptSession L → Transcript
 transcript s = record { part = part_of s.seat; told = s.told.items; fault = s.fault }
 
 -- what is printed of a session that has ended
-abbrev pub session_bytes : {L : Type 0} → Session L → List ℕ
+abbrev pub session_bytes : {L : Type 0} → ScriptSession L → List ℕ
 session_bytes s = session_text (transcript s)
 
 -- what sessions begin with at this exchange, from seats that have seen so much
@@ -39,6 +39,6 @@ pub record AreAllSeats (x : Exchange) (seats : List SeatState) : Type 0 where
 
 -- each script has its session, and these have all seats of the exchange
 pub record AreServedAt {L : Type 0} (x : Exchange) (start : ℕ) (scripts : List (List ℕ))
-    (sessions : List (Session L)) : Type 0 where
+    (sessions : List (ScriptSession L)) : Type 0 where
   pub all_seats : AreAllSeats x (map (λ s. s.seat) sessions)
   pub of_scripts : AreSessionsOf (begun_at false x start) scripts (map transcript sessions)

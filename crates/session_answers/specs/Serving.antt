@@ -1,5 +1,6 @@
 -- What `serve` answers.
-use Rattle.std.specs.Prelude.{◌≡◌, ℕ, ◌≤◌, false, List, [], length, map, All, slice_get, Option, Some, None}
+use Rattle.std.specs.Prelude.{◌≡◌, ℕ, ◌≤◌, false, List, [], length, map, All, slice_get, Option}
+use Rattle.std.specs.Prelude.{Some, None}
 use Rattle.std.specs.List.{range_with_len}
 use Rattle.module_memory.specs.Store.{Store}
 use Rattle.batch_book.specs.declared.limits.TheConstants.{MAX_ENTRIES}

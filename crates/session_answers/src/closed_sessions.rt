@@ -7,6 +7,6 @@ pub struct ClosedSessions<K: History = MemoryHistory> {
     /// What is printed after them.
     pub answer: Answer,
     /// The exchange's book, and no copy: its history explains what each session was told, and its
-    /// rack has the words to which that leads. It tells whether each entry stands where it belongs.
+    /// rack has the words to which that leads. It says whether each entry is durable.
     pub book: Book<K>,
 }

@@ -1,10 +1,12 @@
 //! How sessions are printed.
 
-ghost use Rattle.std.specs.Prelude.{◌≡◌, ◌≤◌, ◌+◌, ◌++◌, IfOk, OnOk, length, map, vec_len, vec_capacity};
-ghost use Rattle.session_answers.specs.Frames.{ended_line, end_line, end_text, sessions_text, has_fault};
+ghost use Rattle.std.specs.Prelude.{◌≡◌, ◌≤◌, ◌+◌, ◌++◌, IfOk, OnOk, length, map, vec_len};
+ghost use Rattle.std.specs.Prelude.{vec_capacity};
+ghost use Rattle.session_answers.specs.Frames.{ended_line, end_line, end_text, sessions_text};
+ghost use Rattle.session_answers.specs.Frames.{has_fault};
 ghost use Rattle.session_answers.specs.Hosting.{transcript, session_bytes};
 
-use crate::session::Session;
+use crate::session::ScriptSession;
 use batch_book::ExchangeName;
 use client_session::ServeFault;
 use std::alloc::{AllocError, Global};
@@ -72,7 +74,7 @@ pub fn push_end(
 fn push_session<L: ExchangeName>(
     alloc: Global,
     text: &mut Vec<u8>,
-    session: &Session<L>,
+    session: &ScriptSession<L>,
 ) -> Result<(), AllocError>
     ensures { OnOk result (text.new.items ≡ text.old.items ++ session_bytes session.now) }
 {
@@ -85,7 +87,10 @@ fn push_session<L: ExchangeName>(
 
 /// What is printed of sessions: for each the line `session I`, what it was told, and where a fault
 /// ended it a line that says so.
-pub fn frame<L: ExchangeName>(alloc: Global, sessions: &[Session<L>]) -> Result<Vec<u8>, AllocError>
+pub fn frame<L: ExchangeName>(
+    alloc: Global,
+    sessions: &[ScriptSession<L>],
+) -> Result<Vec<u8>, AllocError>
     ensures { IfOk result (λ text. text.items ≡ sessions_text (map transcript sessions.now)) }
 {
     let mut text = Vec::new(alloc);
@@ -96,7 +101,7 @@ pub fn frame<L: ExchangeName>(alloc: Global, sessions: &[Session<L>]) -> Result<
 }
 
 /// Whether a fault ended one of the sessions.
-pub fn has_fault<L: ExchangeName>(sessions: &[Session<L>]) -> bool
+pub fn has_fault<L: ExchangeName>(sessions: &[ScriptSession<L>]) -> bool
     ensures { result ≡ has_fault (map transcript sessions.now) }
 {
     sessions.iter().any(|session| session.fault.is_some())

@@ -1,13 +1,16 @@
 //! The threads of a host: one for each client, which begins once all are there.
 
-ghost use Rattle.std.specs.Prelude.{◌≡◌, ◌≤◌, ◌+◌, ◌++◌, [], All, List, IfOk, IfErr, length, vec_capacity};
+ghost use Rattle.std.specs.Prelude.{◌≡◌, ◌≤◌, ◌+◌, ◌++◌, [], All, List, IfOk, IfErr, length};
+ghost use Rattle.std.specs.Prelude.{vec_capacity};
 ghost use Rattle.std.specs.Vec.Iter.{into_iter_items};
 ghost use Rattle.batch_book.specs.Exchanges.{AreNew};
 ghost use Rattle.batch_book.specs.Seats.{SeatState};
 ghost use Rattle.batch_book.specs.Values.{greatest};
 ghost use Rattle.session_answers.specs.Hosting.{IsFresh};
 ghost use Rattle.session_answers.specs.HostAnswers.{IsUnhosted};
-ghost use Rattle.session_answers.specs.HostedSessions.{AreEach, IsOfSeat, IsThreadOf, IsReturned, HasReturned, HaveReturned, IsRoomFor, AreAllHosted, begins};
+ghost use Rattle.session_answers.specs.HostedSessions.{AreEach, IsOfSeat, IsThreadOf, IsReturned};
+ghost use Rattle.session_answers.specs.HostedSessions.{HasReturned, HaveReturned, IsRoomFor};
+ghost use Rattle.session_answers.specs.HostedSessions.{AreAllHosted, begins};
 
 use crate::client_streams::ClientStreams;
 use crate::ended_session::Ending;
@@ -156,7 +159,14 @@ fn wait_and_host<'a, L: ExchangeName, R: SessionRuntime, D: ClientStreams, K: Hi
 
 /// Gives a seat a thread, which waits for the latch. Where it can't be had no session begins, and
 /// the seat is there at once.
-fn start<'s, E, L: ExchangeName + Send + Sync, R: SessionRuntime, D: ClientStreams, K: History + Send>(
+fn start<
+    's,
+    E,
+    L: ExchangeName + Send + Sync,
+    R: SessionRuntime,
+    D: ClientStreams,
+    K: History + Send,
+>(
     scope: &Scope<'s, E>,
     context: &'s HostContext<'s, L, R, D, K>,
     seat: Seat<L>,
@@ -278,7 +288,14 @@ fn join_all<'s, L: ExchangeName, R: SessionRuntime, D: ClientStreams, K: History
 
 /// Serves the clients of these seats side by side, once each has a thread. Their seats come back
 /// where one of these can't be had.
-fn host_all<'s, E, L: ExchangeName + Send + Sync, R: SessionRuntime, D: ClientStreams, K: History + Send>(
+fn host_all<
+    's,
+    E,
+    L: ExchangeName + Send + Sync,
+    R: SessionRuntime,
+    D: ClientStreams,
+    K: History + Send,
+>(
     scope: &Scope<'s, E>,
     context: &'s HostContext<'s, L, R, D, K>,
     seats: Vec<Seat<L>>,

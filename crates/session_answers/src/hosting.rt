@@ -1,11 +1,13 @@
 //! The command `host`.
 
-ghost use Rattle.std.specs.Prelude.{◌≡◌, ◌≤◌, ◌+◌, ◌++◌, [], true, IfOk, IfErr, IfSome, length, map, vec_len, vec_capacity};
+ghost use Rattle.std.specs.Prelude.{◌≡◌, ◌≤◌, ◌+◌, ◌++◌, [], true, IfOk, IfErr, IfSome, length};
+ghost use Rattle.std.specs.Prelude.{map, vec_len, vec_capacity};
 ghost use Rattle.std.specs.List.{list_any};
 ghost use Rattle.batch_book.specs.History.{AreUnstopped};
 ghost use Rattle.batch_book.specs.Naming.{IsNamed};
 ghost use Rattle.session_answers.specs.Histories.{HaveOneHistory};
-ghost use Rattle.session_answers.specs.HostAnswers.{AreHosted, IsUnhosted, seen_end, ending_line, hosted_heading, has_failed};
+ghost use Rattle.session_answers.specs.HostAnswers.{AreHosted, IsUnhosted, seen_end, ending_line};
+ghost use Rattle.session_answers.specs.HostAnswers.{hosted_heading, has_failed};
 ghost use Rattle.session_answers.specs.HostTexts.{ends_text, room_of, session_room};
 ghost use Rattle.session_answers.specs.HostedSessions.{IsRoomFor};
 
@@ -188,8 +190,8 @@ fn host<L: ExchangeName + Send + Sync, K: History + Send, R: SessionRuntime, D: 
 }
 
 /// What `exchange host` leaves: the sessions of these clients, 1 to [`MAX_SESSIONS`], on one
-/// exchange over this book, which may have entries. Each of these stands where it belongs, and
-/// tells of no run that stopped.
+/// exchange over this book, which may have entries. Each of these is durable, and tells of no run
+/// that stopped.
 ///
 /// Each client is served in a thread of its own, from the files that are opened for it there. It
 /// waits for its own files, and while the exchange answers a call of another. Planning and runs are

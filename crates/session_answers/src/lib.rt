@@ -13,9 +13,9 @@
 //! as these are known (`IsServedSession`), unless its files couldn't be opened, and what all asked
 //! is one legal history, that of the book after what it had before (`HaveOneHistory` of
 //! `specs/Histories.antt`). No run of it stopped, and no session saw the runs come further than it
-//! tells. What a session was told stands where it belongs. Where the book is whole all entries do;
-//! where it isn't, some last ones may be missing, which nobody was told. The files of a client are
-//! opened only for who shows that each client has a thread ([`ThreadsStarted`]).
+//! tells. What a session was told is durable. Where the book is whole all entries are; where it
+//! isn't, some last ones may be missing, which nobody was told. The files of a client are opened
+//! only for who shows that each client has a thread ([`ThreadsStarted`]).
 #![tactic(auto)]
 
 mod client_streams;

@@ -14,7 +14,7 @@ ghost use Rattle.session_answers.specs.Serving.{HasItsScript, AreServed, IsServe
 use crate::closed_sessions::ClosedSessions;
 use crate::frames::{frame, has_fault};
 use crate::plain_exchange::{PlainExchange, SessionRuntime, finish, open_exchange, serve_client};
-use crate::session::Session;
+use crate::session::ScriptSession;
 use batch_book::{Book, ExchangeBlank, ExchangeName, MemoryHistory, Seat};
 use client_session::NoListener;
 use exchange_limits::{MAX_SESSIONS, WorkerCount};
@@ -56,7 +56,7 @@ fn serve_script<L: ExchangeName, R: SessionRuntime>(
     seat: Seat<L>,
     scripts: &[Vec<u8>],
     workers: WorkerCount,
-) -> Session<L>
+) -> ScriptSession<L>
     requires seat { IsSeatReady exchange.now (length scripts.now) seat }
     ensures same { IsSameSeat seat result.seat }
     ensures served { HasItsScript (begun_at false exchange.now seat.seen)
@@ -74,7 +74,7 @@ fn serve_script<L: ExchangeName, R: SessionRuntime>(
         &mut NoListener,
         workers,
     );
-    Session { seat, told, fault }
+    ScriptSession { seat, told, fault }
 }
 
 /// Serves the scripts side by side, one thread for each where it can be had. The sessions come in
@@ -86,13 +86,13 @@ fn serve_all<L: ExchangeName + Send + Sync, R: SessionRuntime>(
     seats: Vec<Seat<L>>,
     scripts: &[Vec<u8>],
     workers: WorkerCount,
-) -> Result<Vec<Session<L>>, AllocError>
+) -> Result<Vec<ScriptSession<L>>, AllocError>
     requires seats { AreNew exchange.now.word (greatest L.earlier) (length scripts.now)
         seats.items }
     ensures { IfOk result (λ sessions. AreServedAt exchange.now (greatest L.earlier)
         (map (λ s. s.items) scripts.now) sessions.items) }
 {
-    let one = |seat: Seat<L>| -> Session<L>
+    let one = |seat: Seat<L>| -> ScriptSession<L>
         requires { IsSeatReady exchange.now (length scripts.now) seat }
         ensures same { IsSameSeat seat result.seat }
         ensures served { HasItsScript (begun_at false exchange.entry.now seat.seen)
@@ -104,7 +104,7 @@ fn serve_all<L: ExchangeName + Send + Sync, R: SessionRuntime>(
 /// The seats of sessions.
 fn seats_of<L: ExchangeName>(
     alloc: Global,
-    sessions: Vec<Session<L>>,
+    sessions: Vec<ScriptSession<L>>,
 ) -> Result<Vec<Seat<L>>, AllocError>
     ensures { IfOk result (λ seats. seats.items ≡ map (λ s. s.seat) sessions.items) }
 {

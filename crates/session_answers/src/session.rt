@@ -3,7 +3,7 @@ use client_session::ServeFault;
 
 /// A session of `serve` that has ended.
 #[derive(Drop)]
-pub struct Session<L: ExchangeName> {
+pub struct ScriptSession<L: ExchangeName> {
     /// Its seat. Contracts see the list of its calls.
     pub seat: Seat<L>,
     /// What it was told.

@@ -58,8 +58,8 @@ fn talk<L: ExchangeName, K: History, R: SessionRuntime, I: Read, O: Write, H: Li
 }
 
 /// What `exchange talk` leaves: one client's session, which is read from the reader, on an exchange
-/// over this book, which may have entries. Each of these stands where it belongs, and tells of no
-/// run that stopped.
+/// over this book, which may have entries. Each of these is durable, and tells of no run that
+/// stopped.
 ///
 /// Reply lines are written, and the writer flushed, before more is read, as
 /// [`serve`](client_session::serve) tells. The listener hears each command, and each refusal of the

@@ -30,10 +30,12 @@ module _ {E : Type 0} (session_of : E → ℕ) where
   -- ---- an entry more
 
   own_same : (session : ℕ) (es : List E) (e : E) → session_of e ≡ session → own_of session_of session (es ++ e ∷ []) ≡ own_of session_of session es ++ e ∷ []
-  own_same session es e same = filter-append (λ x. nat_eq (session_of x) session) es (e ∷ []) ∙ ap (λ b. own_of session_of session es ++ cond b (e ∷ []) []) (eq-eqb (session_of e) session same)
+  own_same session es e same = filter-append (λ x. nat_eq (session_of x) session) es (e ∷ []) ∙ ap (λ b. own_of session_of session es ++ cond b (e ∷ []) [])
+      (eq-eqb (session_of e) session same)
 
   own_other : (session : ℕ) (es : List E) (e : E) → session_of e ≢ session → own_of session_of session (es ++ e ∷ []) ≡ own_of session_of session es
-  own_other session es e other = filter-append (λ x. nat_eq (session_of x) session) es (e ∷ []) ∙ ap (λ b. own_of session_of session es ++ cond b (e ∷ []) []) (ne_eqb (session_of e) session other) ∙ append-nil _
+  own_other session es e other = filter-append (λ x. nat_eq (session_of x) session) es (e ∷ []) ∙ ap (λ b. own_of session_of session es ++ cond b (e ∷ []) [])
+      (ne_eqb (session_of e) session other) ∙ append-nil _
 
   -- ---- the views, of which one changes
 
@@ -68,7 +70,8 @@ module _ {E : Type 0} (session_of : E → ℕ) where
       one (suc by) v e = absurd (some-ne-none v (sym e))
 
   -- a session more is dealt
-  rule_opened : (views : List (ListsView E)) (by : ℕ) (v : ListsView E) → HaveLists session_of views → get_elem? views by ≡ some v → v.keeps ≡ true → v.history ≡ [] → HaveLists session_of (set views by (with_new_list v))
+  rule_opened : (views : List (ListsView E)) (by : ℕ) (v : ListsView E) → HaveLists session_of views → get_elem? views by ≡ some v → v.keeps ≡ true → v.history
+      ≡ [] → HaveLists session_of (set views by (with_new_list v))
   rule_opened views by v h at kept empty =
       let mine = h.fits by v at in
       let holder = placed v.dealt by h.holder in
@@ -101,7 +104,8 @@ module _ {E : Type 0} (session_of : E → ℕ) where
       }
 
   -- an entry is added to the history and to the list that the keeper has
-  rule_added : (views : List (ListsView E)) (by : ℕ) (v : ListsView E) (e : E) → HaveLists session_of views → get_elem? views by ≡ some v → v.keeps ≡ true → v.owns ≡ true → session_of e ≡ v.session → HaveLists session_of (set views by (added (some e) v))
+  rule_added : (views : List (ListsView E)) (by : ℕ) (v : ListsView E) (e : E) → HaveLists session_of views → get_elem? views by ≡ some v → v.keeps ≡ true
+      → v.owns ≡ true → session_of e ≡ v.session → HaveLists session_of (set views by (added (some e) v))
   rule_added views by v e h at kept owns is =
       let mine = h.fits by v at in
       let here = mine.alone kept in
@@ -132,7 +136,8 @@ module _ {E : Type 0} (session_of : E → ℕ) where
             };
       }
 
-  rule_same : (views : List (ListsView E)) (by : ℕ) (v : ListsView E) → HaveLists session_of views → get_elem? views by ≡ some v → HaveLists session_of (set views by v)
+  rule_same : (views : List (ListsView E)) (by : ℕ) (v : ListsView E) → HaveLists session_of views → get_elem? views by ≡ some v
+      → HaveLists session_of (set views by v)
   rule_same views by v h at = record {
     seat = h.seat;
     history = h.history;
@@ -142,7 +147,8 @@ module _ {E : Type 0} (session_of : E → ℕ) where
   }
 
   -- the list that the keeper has goes to a new view
-  rule_split : (views : List (ListsView E)) (by : ℕ) (v : ListsView E) → HaveLists session_of views → get_elem? views by ≡ some v → v.owns ≡ true → HaveLists session_of (set views by (without_own v) ++ own_alone v ∷ [])
+  rule_split : (views : List (ListsView E)) (by : ℕ) (v : ListsView E) → HaveLists session_of views → get_elem? views by ≡ some v → v.owns ≡ true
+      → HaveLists session_of (set views by (without_own v) ++ own_alone v ∷ [])
   rule_split views by v h at owns =
       let mine = h.fits by v at in
       let left = set views by (without_own v) in
@@ -154,7 +160,8 @@ module _ {E : Type 0} (session_of : E → ℕ) where
         alone = f.alone;
         history = f.history;
         dealt = f.dealt;
-        place = λ o. placed_else v.session (length left) h.holder u.session j (λ same. apart (f.place o ∙ ap h.holder same ∙ sym (mine.place owns))) (f.place o);
+        place = λ o. placed_else v.session (length left) h.holder u.session j (λ same. apart (f.place o ∙ ap h.holder same ∙ sym (mine.place owns)))
+            (f.place o);
         below = f.below;
         own = f.own;
       })
@@ -174,12 +181,14 @@ module _ {E : Type 0} (session_of : E → ℕ) where
         holder = holder;
         fits = λ j u there. ⊎_elim
             (λ was. others j u was)
-            (λ (x : (j ≡ length left) × (own_alone v ≡ u)). subst (λ (y : ℕ × ListsView E). IsRightView session_of h.seat h.history h.dealt holder y.0 y.1) (λ i. (sym x.0 i, x.1 i)) new)
+            (λ (x : (j ≡ length left) × (own_alone v ≡ u)). subst (λ (y : ℕ × ListsView E). IsRightView session_of h.seat h.history h.dealt holder y.0 y.1)
+            (λ i. (sym x.0 i, x.1 i)) new)
             (at_end left (own_alone v) u j there);
       }
 
   -- the keeper takes a session's list in
-  rule_joined : (views : List (ListsView E)) (by : ℕ) (v : ListsView E) (other : ℕ) (w : ListsView E) → HaveLists session_of views → get_elem? views by ≡ some v → v.keeps ≡ true → other ≢ by → get_elem? views other ≡ some w → w.owns ≡ true
+  rule_joined : (views : List (ListsView E)) (by : ℕ) (v : ListsView E) (other : ℕ) (w : ListsView E) → HaveLists session_of views → get_elem? views by ≡ some v
+      → v.keeps ≡ true → other ≢ by → get_elem? views other ≡ some w → w.owns ≡ true
       → HaveLists session_of (set (set views by (with_own v w)) other nobody)
   rule_joined views by v other w h at kept apart there owns =
       let mine = h.fits by v at in
@@ -192,7 +201,8 @@ module _ {E : Type 0} (session_of : E → ℕ) where
         holder = holder;
         fits = fits_set h.seat h.history h.dealt holder (set views by (with_own v w)) other nobody
             (λ j u far at'. ⊎_elim
-            (λ (x : (j ≡ by) × (with_own v w ≡ u)). subst (λ (y : ℕ × ListsView E). IsRightView session_of h.seat h.history h.dealt holder y.0 y.1) (λ i. (sym x.0 i, x.1 i)) record {
+            (λ (x : (j ≡ by) × (with_own v w ≡ u)). subst (λ (y : ℕ × ListsView E). IsRightView session_of h.seat h.history h.dealt holder y.0 y.1)
+            (λ i. (sym x.0 i, x.1 i)) record {
               alone = mine.alone;
               history = mine.history;
               dealt = mine.dealt;
@@ -216,18 +226,33 @@ module _ {E : Type 0} (session_of : E → ℕ) where
 
   -- ---- the steps on the table
 
-  pub opens : (slots id : ℕ) (me : Me E (ListsView E)) (held : List (ℕ × E)) → me ≡ (keeper [] me.0.dealt, held) → Allows (KeepsLists session_of) slots id me 0 (λ n. n) (HasDealt (step slots 0 0 0 none) me)
+  pub opens : (slots id : ℕ) (me : Me E (ListsView E)) (held : List (ℕ × E)) → me ≡ (keeper [] me.0.dealt, held) → Allows (KeepsLists session_of) slots id me 0
+      (λ n. n) (HasDealt (step slots 0 0 0 none) me)
   opens slots id me held is s h homes at small =
-      let v = me.0 in
-      (with_new_list v, keeps, tt, rule_opened s.views id v h at (ap (λ (m : Me E (ListsView E)). m.0.keeps) is) (ap (λ (m : Me E (ListsView E)). m.0.history) is), refl)
+      let v = me.0 in (
+        with_new_list v,
+        keeps,
+        tt,
+        rule_opened s.views id v h at (ap (λ (m : Me E (ListsView E)). m.0.keeps) is)
+            (ap (λ (m : Me E (ListsView E)). m.0.history) is),
+        refl,
+      )
 
-  pub adds : (slots id : ℕ) (me : Me E (ListsView E)) (v w : ListsView E) (held : List (ℕ × E)) (e : E) → me ≡ (with_own v w, held) → v.keeps ≡ true → w.owns ≡ true → session_of e ≡ w.session
+  pub adds : (slots id : ℕ) (me : Me E (ListsView E)) (v w : ListsView E) (held : List (ℕ × E)) (e : E) → me ≡ (with_own v w, held) → v.keeps ≡ true → w.owns
+      ≡ true → session_of e ≡ w.session
       → Allows (KeepsLists session_of) slots id me 0 (λ n. either (n == 0) 0 n) (HasAdded (step slots 0 0 0 (some e)) me)
   adds slots id me v w held e is kept owns by s h homes at small =
-      let u = me.0 in
-      (added (some e) u, keeps, tt, rule_added s.views id u e h at (ap (λ (m : Me E (ListsView E)). m.0.keeps) is ∙ kept) (ap (λ (m : Me E (ListsView E)). m.0.owns) is ∙ owns) (by ∙ sym (ap (λ (m : Me E (ListsView E)). m.0.session) is)), refl)
+      let u = me.0 in (
+        added (some e) u,
+        keeps,
+        tt,
+        rule_added s.views id u e h at (ap (λ (m : Me E (ListsView E)). m.0.keeps) is ∙ kept)
+            (ap (λ (m : Me E (ListsView E)). m.0.owns) is ∙ owns) (by ∙ sym (ap (λ (m : Me E (ListsView E)). m.0.session) is)),
+        refl,
+      )
 
-  pub compares : (slots id : ℕ) (me : Me E (ListsView E)) (v w : ListsView E) (held : List (ℕ × E)) → me ≡ (with_own v w, held) → v.keeps ≡ true → w.owns ≡ true → Allows (KeepsLists session_of) slots id me 0 (λ n. n) (HasCompared session_of (step slots 0 0 0 none) me)
+  pub compares : (slots id : ℕ) (me : Me E (ListsView E)) (v w : ListsView E) (held : List (ℕ × E)) → me ≡ (with_own v w, held) → v.keeps ≡ true → w.owns ≡ true
+      → Allows (KeepsLists session_of) slots id me 0 (λ n. n) (HasCompared session_of (step slots 0 0 0 none) me)
   compares slots id me v w held is kept owns s h homes at small =
       let u = me.0 in
       let mine = h.fits id u at in
@@ -238,6 +263,7 @@ module _ {E : Type 0} (session_of : E → ℕ) where
   pub gives : (id : ℕ) (v : ListsView E) → v.owns ≡ true → Splits (KeepsLists session_of) id v (without_own v) (own_alone v)
   gives id v owns s h at = rule_split s.views id v h at owns
 
-  pub takes : (id : ℕ) (v : ListsView E) (other : ℕ) (w : ListsView E) → v.keeps ≡ true → w.owns ≡ true → Joins (KeepsLists session_of) id v other w (with_own v w) nobody
+  pub takes : (id : ℕ) (v : ListsView E) (other : ℕ) (w : ListsView E) → v.keeps ≡ true → w.owns ≡ true → Joins (KeepsLists session_of) id v other w
+      (with_own v w) nobody
   takes id v other w kept owns s h at apart there =
       rule_joined s.views id v other w h at kept apart (sym (set_else s.views id other (with_own v w) apart) ∙ there) owns

@@ -49,8 +49,8 @@ nobody =
 -- ---- the rule
 
 -- `seat` has the view of the keeper, `holder` tells which view has each session's list, and `by` is
--- this view. The one view that keeps knows the history. The one view that has the list of a session has those
--- of the history that are the session's.
+-- this view. The one view that keeps knows the history. The one view that has the list of a session
+-- has those of the history that are the session's.
 pub record IsRightView {E : Type 0} (session_of : E → ℕ) (seat : ℕ) (es : List E) (sessions : ℕ)
     (holder : ℕ → ℕ) (by : ℕ) (v : ListsView E) : Type 0 where
   pub alone : v.keeps ≡ true → by ≡ seat
@@ -103,7 +103,8 @@ added (some e) v =
 abbrev pub HasAdded : {E : Type 0} → Step E → Me E (ListsView E) → ℕ → Me E (ListsView E) → Type 0
 HasAdded step v found w = w ≡ (added step.said v.0, v.1)
 
-abbrev pub HasCompared : {E : Type 0} → (E → ℕ) → Step E → Me E (ListsView E) → ℕ → Me E (ListsView E)
+abbrev pub HasCompared : {E : Type 0} → (E → ℕ) → Step E → Me E (ListsView E) → ℕ
+    → Me E (ListsView E)
     → Type 0
 HasCompared session_of step v found w =
     (w ≡ v) × (v.0.own ≡ own_of session_of v.0.session v.0.history)

@@ -3,7 +3,7 @@
 ghost use Rattle.std.specs.Prelude.{◌≡◌, ◌+◌, ◌<◌, ◌++◌, ◌∷◌, []};
 ghost use Rattle.session_lists.specs.Lists.{own_of};
 
-use crate::rule::{Adds, Agrees, Compares, Deals, Hands, SessionItem, ListsView};
+use crate::rule::{AddsEntry, Compares, Deals, Hands, ListsRule, ListsView, SessionItem};
 use atomic_table::{Seat, Table};
 use std::alloc::{AllocError, Global};
 use std::marker::{Brand, Model, PhantomData};
@@ -24,7 +24,7 @@ impl HistoryName for Brand {
 /// An empty history, which no type names yet. Contracts see which it is.
 #[derive(Drop)]
 pub struct Fresh<E: SessionItem + Drop> {
-    table: Table<E, ListsView<E>, (), Agrees<E>, Global>,
+    table: Table<E, ListsView<E>, (), ListsRule<E>, Global>,
     seat: Seat<E, ListsView<E>>,
 }
 
@@ -68,7 +68,7 @@ impl<E: SessionItem + Drop> Fresh<E> {
 /// The keeper of a history. Contracts see the history, and how many sessions have lists.
 #[derive(Drop)]
 pub struct Keeper<E: SessionItem + Drop, B: HistoryName> {
-    table: Table<E, ListsView<E>, (), Agrees<E>, Global>,
+    table: Table<E, ListsView<E>, (), ListsRule<E>, Global>,
     seat: Seat<E, ListsView<E>>,
     of: PhantomData<B>,
 }
@@ -126,7 +126,7 @@ impl<E: SessionItem + Drop, B: HistoryName> Keeper<E, B> {
         }
     }
 
-    /// Adds an entry of a session to the history and to the session's list.
+    /// AddsEntry an entry of a session to the history and to the session's list.
     pub fn add(&mut self, own: OwnList<E, B>, entry: &E) -> OwnList<E, B>
         requires { E.session entry.now ≡ own.session }
         ensures history { self.new.history ≡ self.old.history ++ entry.now ∷ [] }
@@ -139,7 +139,7 @@ impl<E: SessionItem + Drop, B: HistoryName> Keeper<E, B> {
         table.shared.join_seat::<Hands>(seat, other);
         table
             .shared
-            .compare_exchange_with::<Adds>(seat, 0, 0, 0, entry);
+            .compare_exchange_with::<AddsEntry>(seat, 0, 0, 0, entry);
         let own = table.shared.split_seat::<Hands>(seat);
         OwnList {
             seat: own,

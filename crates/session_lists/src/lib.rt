@@ -11,4 +11,4 @@ mod keeper;
 mod rule;
 
 pub use keeper::{Fresh, HistoryName, Keeper, OwnList};
-pub use rule::{SessionItem, ListsView};
+pub use rule::{ListsView, SessionItem};

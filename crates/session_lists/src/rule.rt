@@ -28,11 +28,11 @@ pub struct ListsView<E> {
 }
 
 /// The rule, for the table.
-pub(crate) struct Agrees<E> {
+pub(crate) struct ListsRule<E> {
     of: PhantomData<E>,
 }
 
-impl<E: SessionItem> TableRule<E, ListsView<E>, ()> for Agrees<E> {
+impl<E: SessionItem> TableRule<E, ListsView<E>, ()> for ListsRule<E> {
     ghost use Rattle.session_lists.specs.Lists.{KeepsLists, keeper};
 
     ghost holds = { λ _. KeepsLists E.session };
@@ -52,9 +52,9 @@ impl<E> Play<E, ListsView<E>> for Deals {
 }
 
 /// The keeper adds an entry to the history, and to the list that it has.
-pub(crate) struct Adds;
+pub(crate) struct AddsEntry;
 
-impl<E> Play<E, ListsView<E>> for Adds {
+impl<E> Play<E, ListsView<E>> for AddsEntry {
     ghost use Rattle.session_lists.specs.Lists.{HasAdded};
 
     ghost then = { HasAdded };

@@ -28,10 +28,13 @@ ok_number m n e = cc
 pub ok_word : (m n : ℕ) (r : Result ℕ StoreFault) → r ≡ Ok m → r ≡ Ok n → m ≡ n
 ok_word m n r e f = ok_number m n (sym e ∙ f)
 
-pub write_lands : WordsAreWritten → (start : ℕ) (s : ShapeView) (b : BlockAt) (n a j w : ℕ) → start % WORD_BYTES ≡ 0 → length b.words ≡ s.words → j < s.words → n ≡ b.place.block → a ≡ address_from start s n j → block_write start b a w ≡ Ok (with_word b j w)
-write_lands law start s b n a j w four e h f g = ap (λ (x : ℕ). block_write start b x w) (g ∙ ap (λ (x : ℕ). address_from start s x j) f) ∙ law start s b j w four e h
+pub write_lands : WordsAreWritten → (start : ℕ) (s : ShapeView) (b : BlockAt) (n a j w : ℕ) → start % WORD_BYTES ≡ 0 → length b.words ≡ s.words → j < s.words
+    → n ≡ b.place.block → a ≡ address_from start s n j → block_write start b a w ≡ Ok (with_word b j w)
+write_lands law start s b n a j w four e h f g = ap (λ (x : ℕ). block_write start b x w) (g ∙ ap (λ (x : ℕ). address_from start s x j) f)
+    ∙ law start s b j w four e h
 
-pub written_is : WordsAreWritten → (start : ℕ) (s : ShapeView) (b t : BlockAt) (n a j w : ℕ) → start % WORD_BYTES ≡ 0 → length b.words ≡ s.words → j < s.words → n ≡ b.place.block → a ≡ address_from start s n j → block_write start b a w ≡ Ok t → t ≡ with_word b j w
+pub written_is : WordsAreWritten → (start : ℕ) (s : ShapeView) (b t : BlockAt) (n a j w : ℕ) → start % WORD_BYTES ≡ 0 → length b.words ≡ s.words → j < s.words
+    → n ≡ b.place.block → a ≡ address_from start s n j → block_write start b a w ≡ Ok t → t ≡ with_word b j w
 written_is law start s b t n a j w four e h f g k = ok_same t (with_word b j w) (sym k ∙ write_lands law start s b n a j w four e h f g)
 
 -- ---- what a transfer finds
@@ -42,7 +45,8 @@ found_held rest p b h = copy_first (copy_of rest p) (block_of rest.store p) b.wo
 
 pub held_reads : WordsAreRead → (rest : RestView) (p : Place) (b : BlockAt) → IsHeldStore rest p b → ReadsFound (held_read b) HOLD_START rest p
 held_reads law rest p b h j l =
-    ap or_outside (ap (λ (q : Place). block_read HOLD_START b (address_from HOLD_START rest.store.shape q.block j)) (sym h.0) ∙ law HOLD_START rest.store.shape b j refl h.1.all_words l)
+    ap or_outside (ap (λ (q : Place). block_read HOLD_START b (address_from HOLD_START rest.store.shape q.block j)) (sym h.0)
+    ∙ law HOLD_START rest.store.shape b j refl h.1.all_words l)
     ∙ ap (λ (xs : List ℕ). reads (get_or xs j 0)) (sym (found_held rest p b h))
 
 window_some : (xs : List ℕ) → 0 < length xs → window_for xs ≡ HOLD_START

@@ -14,13 +14,20 @@ from_on bytes a (suc n) =
     ∙ sym (append_assoc (bytes a) (flat_map bytes (range_with_len (a + 1) n)) (bytes (a + suc n)))
 
 -- a wire that had carried the words so far, and then one more
-pub one_more : (bytes : ℕ → List ℕ) (j : ℕ) (first old new next : List ℕ) → old ≡ first ++ first_sent bytes j → new ≡ old ++ next → next ≡ bytes j → new ≡ first ++ first_sent bytes (j + 1)
+pub one_more : (bytes : ℕ → List ℕ) (j : ℕ) (first old new next : List ℕ) → old ≡ first ++ first_sent bytes j → new ≡ old ++ next → next ≡ bytes j → new ≡ first
+    ++ first_sent bytes (j + 1)
 one_more bytes j first old new next was is same =
     let z : j ≡ 0 + j = omega arith in
-    is ∙ ap (λ (x : List ℕ). x ++ next) was ∙ append_assoc first (first_sent bytes j) next ∙ ap (λ (x : List ℕ). first ++ (first_sent bytes j ++ x)) (same ∙ ap bytes z)
+    is ∙ ap (λ (x : List ℕ). x ++ next) was ∙ append_assoc first (first_sent bytes j) next ∙ ap (λ (x : List ℕ). first ++ (first_sent bytes j ++ x))
+    (same ∙ ap bytes z)
     ∙ ap (λ (x : List ℕ). first ++ x) (sym (from_on bytes 0 j) ∙ ap (λ (n : ℕ). first_sent bytes n) (sym (add-one j)))
 
 -- a wire that had carried the words so far, and then less than the next one
-pub cut_off : (bytes : ℕ → List ℕ) (j count : ℕ) (first old new next : List ℕ) → old ≡ first ++ first_sent bytes j → next ≡ bytes j → count < length next → new ≡ old ++ take count next → IsCut (bytes j) (first ++ first_sent bytes j) new
-cut_off bytes j count first old new next was same proper is =
-    (count, omega (arith, ap (length {A = ℕ}) same), is ∙ ap (λ (x : List ℕ). x ++ take count next) was ∙ ap (λ (x : List ℕ). (first ++ first_sent bytes j) ++ take count x) same)
+pub cut_off : (bytes : ℕ → List ℕ) (j count : ℕ) (first old new next : List ℕ) → old ≡ first ++ first_sent bytes j → next ≡ bytes j → count < length next → new
+    ≡ old ++ take count next → IsCut (bytes j) (first ++ first_sent bytes j) new
+cut_off bytes j count first old new next was same proper is = (
+  count,
+  omega (arith, ap (length {A = ℕ}) same),
+  is ∙ ap (λ (x : List ℕ). x ++ take count next) was
+      ∙ ap (λ (x : List ℕ). (first ++ first_sent bytes j) ++ take count x) same,
+)

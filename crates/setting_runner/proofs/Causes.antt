@@ -22,7 +22,8 @@ all_zero [] = λ k d l. absurd (omega arith)
 all_zero (t ∷ ts) = All-cons (λ (m : ℕ × ℕ). m.1 ≡ 0) (t, 0) (all_moved ts 0) refl (all_zero ts)
 
 -- a switch that can't be set stops the setting before a word has moved
-pub set_fault_stops : (given : RunConditions) (f : SettingFault) (ms : List (ℕ × ℕ)) (standing : Option (List Pair)) (pairs : List Pair) (old new : Option (List Passing)) → IsSettingFault given.before given.after given.honest f → HavePassedFor given.shape.modules f standing pairs old new
+pub set_fault_stops : (given : RunConditions) (f : SettingFault) (ms : List (ℕ × ℕ)) (standing : Option (List Pair)) (pairs : List Pair)
+    (old new : Option (List Passing)) → IsSettingFault given.before given.after given.honest f → HavePassedFor given.shape.modules f standing pairs old new
     → All (λ (m : ℕ × ℕ). m.1 ≡ 0) ms → IsStopCause given (cause_of f) ms
 set_fault_stops given fault.Port ms standing pairs old new is passed z = record { failed = is; unmoved = z }
 set_fault_stops given (fault.Switch found) ms standing pairs old new is passed z =
@@ -33,10 +34,12 @@ no_wire fault.Port t e = absurd cc
 no_wire (fault.Switch found) t e = absurd cc
 
 -- those whose wires never fail have moved all words
-pub sure_moved : (sure : ℕ → Type 0) (rest : RestView) (batch : List Transfer) (ts : List ℕ) (os ns : List BlockAt) (ms : List (ℕ × ℕ)) → HaveMoved sure rest batch ts os ns ms → All (λ (m : ℕ × ℕ). sure m.0 → m.1 ≡ rest.store.shape.words) ms
+pub sure_moved : (sure : ℕ → Type 0) (rest : RestView) (batch : List Transfer) (ts : List ℕ) (os ns : List BlockAt) (ms : List (ℕ × ℕ))
+    → HaveMoved sure rest batch ts os ns ms → All (λ (m : ℕ × ℕ). sure m.0 → m.1 ≡ rest.store.shape.words) ms
 sure_moved sure rest batch [] [] [] [] a = λ k d l. absurd (omega arith)
 sure_moved sure rest batch (t ∷ ts) (o ∷ os) (n ∷ ns) (m ∷ ms) a =
-    All-cons (λ (x : ℕ × ℕ). sure x.0 → x.1 ≡ rest.store.shape.words) m ms (λ h. a.0.all_words (subst sure a.0.named h)) (sure_moved sure rest batch ts os ns ms a.1)
+    All-cons (λ (x : ℕ × ℕ). sure x.0 → x.1 ≡ rest.store.shape.words) m ms (λ h. a.0.all_words (subst sure a.0.named h))
+    (sure_moved sure rest batch ts os ns ms a.1)
 sure_moved sure rest batch [] [] [] (m ∷ ms) a = absurd a
 sure_moved sure rest batch [] [] (n ∷ ns) ms a = absurd a
 sure_moved sure rest batch [] (o ∷ os) ns ms a = absurd a
@@ -45,7 +48,8 @@ sure_moved sure rest batch (t ∷ ts) (o ∷ os) [] ms a = absurd a
 sure_moved sure rest batch (t ∷ ts) (o ∷ os) (n ∷ ns) [] a = absurd a
 
 -- the names are the setting's
-pub names_moved : (sure : ℕ → Type 0) (rest : RestView) (batch : List Transfer) (ts : List ℕ) (os ns : List BlockAt) (ms : List (ℕ × ℕ)) → HaveMoved sure rest batch ts os ns ms → names_of ms ≡ ts
+pub names_moved : (sure : ℕ → Type 0) (rest : RestView) (batch : List Transfer) (ts : List ℕ) (os ns : List BlockAt) (ms : List (ℕ × ℕ))
+    → HaveMoved sure rest batch ts os ns ms → names_of ms ≡ ts
 names_moved sure rest batch [] [] [] [] a = refl
 names_moved sure rest batch (t ∷ ts) (o ∷ os) (n ∷ ns) (m ∷ ms) a =
     ap (λ (x : ℕ). x ∷ map (λ (m : ℕ × ℕ). m.0) ms) a.0.named ∙ ap (λ (xs : List ℕ). t ∷ xs) (names_moved sure rest batch ts os ns ms a.1)
@@ -56,9 +60,11 @@ names_moved sure rest batch (t ∷ ts) [] ns ms a = absurd a
 names_moved sure rest batch (t ∷ ts) (o ∷ os) [] ms a = absurd a
 names_moved sure rest batch (t ∷ ts) (o ∷ os) (n ∷ ns) [] a = absurd a
 
-pub most_moved : (sure : ℕ → Type 0) (rest : RestView) (batch : List Transfer) (ts : List ℕ) (os ns : List BlockAt) (ms : List (ℕ × ℕ)) → HaveMoved sure rest batch ts os ns ms → All (λ (m : ℕ × ℕ). m.1 ≤ rest.store.shape.words) ms
+pub most_moved : (sure : ℕ → Type 0) (rest : RestView) (batch : List Transfer) (ts : List ℕ) (os ns : List BlockAt) (ms : List (ℕ × ℕ))
+    → HaveMoved sure rest batch ts os ns ms → All (λ (m : ℕ × ℕ). m.1 ≤ rest.store.shape.words) ms
 most_moved sure rest batch [] [] [] [] a = λ k d l. absurd (omega arith)
-most_moved sure rest batch (t ∷ ts) (o ∷ os) (n ∷ ns) (m ∷ ms) a = All-cons (λ (x : ℕ × ℕ). x.1 ≤ rest.store.shape.words) m ms a.0.at_most (most_moved sure rest batch ts os ns ms a.1)
+most_moved sure rest batch (t ∷ ts) (o ∷ os) (n ∷ ns) (m ∷ ms) a = All-cons (λ (x : ℕ × ℕ). x.1 ≤ rest.store.shape.words) m ms a.0.at_most
+    (most_moved sure rest batch ts os ns ms a.1)
 most_moved sure rest batch [] [] [] (m ∷ ms) a = absurd a
 most_moved sure rest batch [] [] (n ∷ ns) ms a = absurd a
 most_moved sure rest batch [] (o ∷ os) ns ms a = absurd a
@@ -105,17 +111,20 @@ new_least words ms m short above = record {
 }
 
 -- a transfer that has moved all words makes no difference
-pub whole_changes_none : (words : ℕ) (ms : List (ℕ × ℕ)) (m : ℕ × ℕ) (least : Option ℕ) → IsLeastOf words ms least → words ≤ m.1 → IsLeastOf words (ms ++ m ∷ []) least
+pub whole_changes_none : (words : ℕ) (ms : List (ℕ × ℕ)) (m : ℕ × ℕ) (least : Option ℕ) → IsLeastOf words ms least → words ≤ m.1
+    → IsLeastOf words (ms ++ m ∷ []) least
 whole_changes_none words ms m None is whole = all_whole_push words ms m is whole
 whole_changes_none words ms m (Some t) is whole = same_least words t ms m is (λ less. absurd (omega arith))
 
 -- nor does one that isn't less
-pub greater_changes_none : (words : ℕ) (ms : List (ℕ × ℕ)) (m : ℕ × ℕ) (least : Option ℕ) → IsLeastOf words ms least → (IfSome least (λ t. m.0 < t) → ⊥) → IsLeastOf words (ms ++ m ∷ []) least
+pub greater_changes_none : (words : ℕ) (ms : List (ℕ × ℕ)) (m : ℕ × ℕ) (least : Option ℕ) → IsLeastOf words ms least → (IfSome least (λ t. m.0 < t) → ⊥)
+    → IsLeastOf words (ms ++ m ∷ []) least
 greater_changes_none words ms m None is not_less = absurd (not_less tt)
 greater_changes_none words ms m (Some t) is not_less =
     same_least words t ms m is (λ _. elim (cases_lt m.0 t) [ inl less ↦ absurd (not_less less) | inr up ↦ omega arith ])
 
 -- one that is less, and short, is the least
-pub lesser_is_least : (words : ℕ) (ms : List (ℕ × ℕ)) (m : ℕ × ℕ) (least : Option ℕ) → IsLeastOf words ms least → m.1 < words → IfSome least (λ t. m.0 < t) → IsLeastOf words (ms ++ m ∷ []) (Some m.0)
+pub lesser_is_least : (words : ℕ) (ms : List (ℕ × ℕ)) (m : ℕ × ℕ) (least : Option ℕ) → IsLeastOf words ms least → m.1 < words → IfSome least (λ t. m.0 < t)
+    → IsLeastOf words (ms ++ m ∷ []) (Some m.0)
 lesser_is_least words ms m None is short less = new_least words ms m short (above_whole words m.0 ms is)
 lesser_is_least words ms m (Some t) is short less = new_least words ms m short (above_less words m.0 t ms less is.least)

@@ -20,7 +20,9 @@ no_bay = record { place = record { «module» = 0; block = 0 }; words = [] }
 abbrev no_words : ℕ × ℕ
 no_words = (0, 0)
 
-HaveMoved-at : (sure : ℕ → Type 0) (rest : RestView) (batch : List Transfer) (ts : List ℕ) (os ns : List BlockAt) (ms : List (ℕ × ℕ)) (i : ℕ) → HaveMoved sure rest batch ts os ns ms → i < length ts → HasMoved sure rest batch (get_or ts i 0) (get_or os i no_bay) (get_or ns i no_bay) (get_or ms i no_words)
+HaveMoved-at : (sure : ℕ → Type 0) (rest : RestView) (batch : List Transfer) (ts : List ℕ) (os ns : List BlockAt) (ms : List (ℕ × ℕ)) (i : ℕ)
+    → HaveMoved sure rest batch ts os ns ms → i < length ts → HasMoved sure rest batch (get_or ts i 0) (get_or os i no_bay) (get_or ns i no_bay)
+    (get_or ms i no_words)
 HaveMoved-at sure rest batch [] os ns ms i a h = absurd (omega arith)
 HaveMoved-at sure rest batch (t ∷ ts) (o ∷ os) (n ∷ ns) (m ∷ ms) zero a h = a.0
 HaveMoved-at sure rest batch (t ∷ ts) (o ∷ os) (n ∷ ns) (m ∷ ms) (suc i) a h = HaveMoved-at sure rest batch ts os ns ms i a.1 (omega arith)
@@ -28,7 +30,8 @@ HaveMoved-at sure rest batch (t ∷ ts) [] ns ms i a h = absurd a
 HaveMoved-at sure rest batch (t ∷ ts) (o ∷ os) [] ms i a h = absurd a
 HaveMoved-at sure rest batch (t ∷ ts) (o ∷ os) (n ∷ ns) [] i a h = absurd a
 
-HaveMoved-lengths : (sure : ℕ → Type 0) (rest : RestView) (batch : List Transfer) (ts : List ℕ) (os ns : List BlockAt) (ms : List (ℕ × ℕ)) → HaveMoved sure rest batch ts os ns ms → (length ns ≡ length ts) × (length ms ≡ length ts)
+HaveMoved-lengths : (sure : ℕ → Type 0) (rest : RestView) (batch : List Transfer) (ts : List ℕ) (os ns : List BlockAt) (ms : List (ℕ × ℕ))
+    → HaveMoved sure rest batch ts os ns ms → (length ns ≡ length ts) × (length ms ≡ length ts)
 HaveMoved-lengths sure rest batch [] [] [] [] a = (refl, refl)
 HaveMoved-lengths sure rest batch (t ∷ ts) (o ∷ os) (n ∷ ns) (m ∷ ms) a = let r = HaveMoved-lengths sure rest batch ts os ns ms a.1 in (ap suc r.0, ap suc r.1)
 HaveMoved-lengths sure rest batch [] [] [] (m ∷ ms) a = absurd a
@@ -38,7 +41,8 @@ HaveMoved-lengths sure rest batch (t ∷ ts) [] ns ms a = absurd a
 HaveMoved-lengths sure rest batch (t ∷ ts) (o ∷ os) [] ms a = absurd a
 HaveMoved-lengths sure rest batch (t ∷ ts) (o ∷ os) (n ∷ ns) [] a = absurd a
 
-pub movable_from : (rest : RestView) (batch : List Transfer) (ts : List ℕ) (bays : List BlockAt) → length ts ≡ length bays → ((i : ℕ) → i < length ts → IsMovable rest batch (get_or ts i 0) (get_or bays i no_bay)) → AreMovable rest batch ts bays
+pub movable_from : (rest : RestView) (batch : List Transfer) (ts : List ℕ) (bays : List BlockAt) → length ts ≡ length bays
+    → ((i : ℕ) → i < length ts → IsMovable rest batch (get_or ts i 0) (get_or bays i no_bay)) → AreMovable rest batch ts bays
 movable_from rest batch [] [] e f = tt
 movable_from rest batch [] (b ∷ bs) e f = absurd (omega arith)
 movable_from rest batch (t ∷ ts) [] e f = absurd (omega arith)
@@ -85,7 +89,8 @@ abbrev mixed : ℕ → List ℕ → List ℕ → List ℕ
 mixed c from old = take c from ++ drop c old
 
 -- what the workers of a part leave in all bays
-pub are_filled : (rest : RestView) (batch : List Transfer) (bays part : List BlockAt) (ts : List ℕ) (ms : List (ℕ × ℕ)) (a n : ℕ) → n ≡ length ts → a + n ≤ length bays → HaveMoved none_sure rest batch ts (take n (drop a bays)) part ms
+pub are_filled : (rest : RestView) (batch : List Transfer) (bays part : List BlockAt) (ts : List ℕ) (ms : List (ℕ × ℕ)) (a n : ℕ) → n ≡ length ts
+    → a + n ≤ length bays → HaveMoved none_sure rest batch ts (take n (drop a bays)) part ms
     → AreFilled (found_in rest) bays (take a bays ++ (part ++ drop n (drop a bays))) a (setting_of batch ts) (slice_index (words_of ms))
 are_filled rest batch bays part ts ms a n count within moves =
     let new = put_back bays part a n in

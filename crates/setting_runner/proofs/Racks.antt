@@ -9,8 +9,10 @@ use Rattle.batch.specs.declared.transfer.Transfer.{Transfer}
 use Rattle.module_memory.specs.Core.{FitsIn}
 use Rattle.switch_settings.specs.Racks.{HasModulesOf}
 
-names_by : (kind : Kind) (shape : ShapeView) (i b r c : ℕ) → HasPlace shape (source_of (record { kind = kind; initiator = i; own_block = b; responder = r; far_block = c }))
-    → HasPlace shape (destination_of (record { kind = kind; initiator = i; own_block = b; responder = r; far_block = c })) → (i < shape.modules) × (r < shape.modules)
+names_by : (kind : Kind) (shape : ShapeView) (i b r c : ℕ)
+    → HasPlace shape (source_of (record { kind = kind; initiator = i; own_block = b; responder = r; far_block = c }))
+    → HasPlace shape (destination_of (record { kind = kind; initiator = i; own_block = b; responder = r; far_block = c })) → (i < shape.modules)
+    × (r < shape.modules)
 names_by Push shape i b r c source destination = (source.in_modules, destination.in_modules)
 names_by Pull shape i b r c source destination = (destination.in_modules, source.in_modules)
 

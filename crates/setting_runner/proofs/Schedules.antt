@@ -15,7 +15,8 @@ use Rattle.link_graph.proofs.Firsts.{all_left, all_right}
 use Rattle.switch_settings.proofs.Counting.{each_once, length_range}
 
 -- the numbers before a setting, those of the setting, and those after it
-pub split_concat : (settings : List (List ℕ)) (k : ℕ) → k < length settings → concat settings ≡ concat (take k settings) ++ get_or settings k [] ++ concat (drop (k + 1) settings)
+pub split_concat : (settings : List (List ℕ)) (k : ℕ) → k < length settings → concat settings ≡ concat (take k settings) ++ get_or settings k []
+    ++ concat (drop (k + 1) settings)
 split_concat [] k h = absurd (omega arith)
 split_concat (s ∷ ss) zero h = refl
 split_concat (s ∷ ss) (suc k) h =
@@ -79,7 +80,8 @@ numbers_are_counted batch settings s =
     let xs = concat settings in
     let n = length batch in
     let once = is_once batch settings s in
-    let rows = sum_ones (λ (t : ℕ). sum_by (hit t) xs) (range_with_len 0 n) (each_stands xs 0 n (λ t l m. once_from_distinct t xs once.distinct (once.every t (omega arith)))) in
+    let rows = sum_ones (λ (t : ℕ). sum_by (hit t) xs) (range_with_len 0 n)
+    (each_stands xs 0 n (λ t l m. once_from_distinct t xs once.distinct (once.every t (omega arith)))) in
     let columns = sum_ones (λ (u : ℕ). sum_by (λ t. hit t u) (range_with_len 0 n)) xs (each_once xs n (is_known batch settings s)) in
     let same = swap hit (range_with_len 0 n) xs in
     omega (arith, rows, columns, same, length_range 0 n)

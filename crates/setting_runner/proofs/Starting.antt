@@ -37,7 +37,8 @@ pub no_overlap : (ts : List Transfer) (i j : ℕ) → IsApart ts → IsFirstOver
 no_overlap ts i j apart first = apart i j first.overlap
 
 -- the overlap that is named is the first
-pub overlap_of : (shape : ShapeView) (ts : List Transfer) (r : RunRefusal) → IsRefusal shape ts r → (i j : ℕ) → (refused r ≡ refused (Overlap i j)) ↔ IsFirstOverlap ts i j
+pub overlap_of : (shape : ShapeView) (ts : List Transfer) (r : RunRefusal) → IsRefusal shape ts r → (i j : ℕ) → (refused r ≡ refused (Overlap i j)) ↔
+    IsFirstOverlap ts i j
 overlap_of shape ts (Overlap a b) first i j = (
   λ e. let same = same_pair a b i j e in subst (λ (x : ℕ). IsFirstOverlap ts x j) same.0 (subst (λ (x : ℕ). IsFirstOverlap ts a x) same.1 first),
   λ other. let same = one_first ts a b i j first other in ap₂ (λ (x y : ℕ). refused (Overlap x y)) same.0 same.1,
@@ -61,17 +62,20 @@ memory_of shape ts NoMemory is e = is
 not_refused : (o : Outcome) (r : RunRefusal) → (IsRefusedRun o → ⊥) → o ≡ refused r → ⊥
 not_refused o r going e = going (subst IsRefusedRun (sym e) tt)
 
-pub going_no_overlap : (shape : ShapeView) (ts : List Transfer) (o : Outcome) → (IsRefusedRun o → ⊥) → CanMove shape ts → (i j : ℕ) → (o ≡ refused (Overlap i j)) ↔ IsFirstOverlap ts i j
+pub going_no_overlap : (shape : ShapeView) (ts : List Transfer) (o : Outcome) → (IsRefusedRun o → ⊥) → CanMove shape ts → (i j : ℕ)
+    → (o ≡ refused (Overlap i j)) ↔ IsFirstOverlap ts i j
 going_no_overlap shape ts o going free i j = (λ e. absurd (not_refused o (Overlap i j) going e), λ first. absurd (no_overlap ts i j free.apart first))
 
-pub going_no_shape : (shape : ShapeView) (ts : List Transfer) (o : Outcome) → (IsRefusedRun o → ⊥) → CanMove shape ts → (o ≡ refused Shape) ↔ (IsApart ts × IsMisfit shape ts)
+pub going_no_shape : (shape : ShapeView) (ts : List Transfer) (o : Outcome) → (IsRefusedRun o → ⊥) → CanMove shape ts
+    → (o ≡ refused Shape) ↔ (IsApart ts × IsMisfit shape ts)
 going_no_shape shape ts o going free = (λ e. absurd (not_refused o Shape going e), λ both. absurd (both.1 free.fits))
 
 pub going_no_memory : (shape : ShapeView) (ts : List Transfer) (o : Outcome) → (IsRefusedRun o → ⊥) → o ≡ refused NoMemory → RunNeedsMemory shape ts
 going_no_memory shape ts o going e = absurd (not_refused o NoMemory going e)
 
 -- what can be lent isn't refused but for want of memory
-pub lend_fault_is : (shape : ShapeView) (places held : List Place) (f : LendFault) → AreLendable shape places → ExistBefore shape held (length held) → IsLendFault shape places held f → (0 < length places) ⊎ (0 < length held)
+pub lend_fault_is : (shape : ShapeView) (places held : List Place) (f : LendFault) → AreLendable shape places → ExistBefore shape held (length held)
+    → IsLendFault shape places held f → (0 < length places) ⊎ (0 < length held)
 lend_fault_is shape places held (SamePlace i) a h f = absurd (a.distinct f.2.again.0 i f.2.again.1 f.2.within f.2.again.2)
 lend_fault_is shape places held (NoHeld i) a h f = absurd (f.1.missing (h i f.1.within))
 lend_fault_is shape places held (NoPlace i) a h f = absurd (f.missing (a.exist i f.within))
@@ -84,11 +88,13 @@ setting_bays s batch settings k r h =
     let before = concat (take k settings) in
     let after = concat (drop (k + 1) settings) in
     let e = split_concat settings k h in
-    subst (λ (xs : List ℕ). AreBaysOf (without s (destinations_of batch xs)) (bays_of s (destinations_of batch xs)) (length before) (setting_of batch (numbers_in settings k))) (sym e)
+    subst (λ (xs : List ℕ). AreBaysOf (without s (destinations_of batch xs)) (bays_of s (destinations_of batch xs)) (length before)
+    (setting_of batch (numbers_in settings k))) (sym e)
     (settings_have_bays s batch before (numbers_in settings k) after (subst (IsReady s s batch) e r)).1
 
 -- held sources are blocks of the rack
-pub held_places : (shape : ShapeView) (batch : List Transfer) (held : List Place) → AreHeldSources batch held → FitsIn shape batch → ExistBefore shape held (length held)
+pub held_places : (shape : ShapeView) (batch : List Transfer) (held : List Place) → AreHeldSources batch held → FitsIn shape batch
+    → ExistBefore shape held (length held)
 held_places shape batch held h fits k l =
     let read = ((h.each (place_in held k)).0 (Contains-get_or held k _ l)).0 in
     subst (HasPlace shape) read.2 (fits read.0 read.1).0

@@ -9,13 +9,14 @@ use Rattle.setting_runner.specs.Runs.{HasCause, IsRefusedRun, LeavesSwitches}
 use Rattle.setting_runner.specs.Traffic.{LeavesTraffic}
 
 -- a batch, and the settings of a schedule of it
-abbrev pub Scheduled : Type 0
-Scheduled = List Transfer × List (List ℕ)
+abbrev pub RunSchedule : Type 0
+RunSchedule = List Transfer × List (List ℕ)
 
 -- What a run of this schedule, if there is one, leaves of its plant on a rack of this shape, where
 -- it ends so. The first two say what is seen of the port, and which wires never fail.
-pub record LeavesPlant {P W G : Type 0} (seen : Ghosts P) (sure : W → ℕ → Type 0) (shape : ShapeView)
-    (ran : Option Scheduled) (outcome : Outcome) (old new : Plant P W G) : Type 0 where
+pub record LeavesPlant {P W G : Type 0} (seen : Ghosts P) (sure : W → ℕ → Type 0)
+    (shape : ShapeView)
+    (ran : Option RunSchedule) (outcome : Outcome) (old new : Plant P W G) : Type 0 where
   -- a run that stopped has a cause, and the port has failed in no other
   pub cause :
       HasCause (record {

@@ -1,6 +1,7 @@
 -- How a run ends, and what it leaves and tells. The outcomes and their causes are this project's
 -- choice.
-use Rattle.std.specs.Prelude.{◌≡◌, ℕ, ◌<◌, ◌≤◌, ◌+◌, ◌*◌, Bool, false, List, ◌++◌, zero, suc, length, map, take, slice_index, All, Contains}
+use Rattle.std.specs.Prelude.{◌≡◌, ℕ, ◌<◌, ◌≤◌, ◌+◌, ◌*◌, Bool, false, List, ◌++◌, zero, suc}
+use Rattle.std.specs.Prelude.{length, map, take, slice_index, All, Contains}
 use Rattle.std.specs.List.{concat}
 use Rattle.batch.specs.ShapeView.{ShapeView}
 use Rattle.batch.specs.declared.transfer.Transfer.{Transfer}

@@ -1,6 +1,7 @@
 //! What is tested and taken before a run begins.
 
-ghost use Rattle.std.specs.Prelude.{◌≡◌, ◌<◌, ◌++◌, ◌↔◌, All, length, IsTrue, OnOk, OnErr, IfOk, IfErr};
+ghost use Rattle.std.specs.Prelude.{◌≡◌, ◌<◌, ◌++◌, ◌↔◌, All, length, IsTrue, OnOk, OnErr, IfOk};
+ghost use Rattle.std.specs.Prelude.{IfErr};
 ghost use Rattle.batch.specs.Places.{HasPlace, source_of, destination_of};
 ghost use Rattle.module_memory.specs.Bays.{destinations_of};
 ghost use Rattle.module_memory.specs.Core.{FitsIn};

@@ -4,11 +4,13 @@ ghost use Rattle.std.specs.Prelude.{◌≡◌, ◌↔◌, ℕ, Some, IfOk, IfErr
 ghost use Rattle.batch.specs.Overlap.{IsApart, IsFirstOverlap};
 ghost use Rattle.link_graph.specs.Schedules.{IsScheduleOf};
 ghost use Rattle.module_memory.specs.Lending.{store_rejoined, Rejoins};
-ghost use Rattle.setting_runner.specs.declared.outcome.RunRefusal.TheVariants.{Overlap, Shape, NoMemory};
+ghost use Rattle.setting_runner.specs.declared.outcome.RunRefusal.TheVariants.{Overlap, Shape};
+ghost use Rattle.setting_runner.specs.declared.outcome.RunRefusal.TheVariants.{NoMemory};
 ghost use Rattle.setting_runner.specs.declared.outcome.Outcome.TheVariants.{Refused};
 ghost use Rattle.setting_runner.specs.Refusals.{IsRefusal};
 ghost use Rattle.setting_runner.specs.Plants.{LeavesPlant};
-ghost use Rattle.setting_runner.specs.Runs.{IsPrepared, LeavesMemories, IsMisfit, IsRefusedRun, CanMove, RunNeedsMemory, TellsOutcome};
+ghost use Rattle.setting_runner.specs.Runs.{IsPrepared, LeavesMemories, IsMisfit, IsRefusedRun};
+ghost use Rattle.setting_runner.specs.Runs.{CanMove, RunNeedsMemory, TellsOutcome};
 
 use crate::notice::Notice;
 use crate::outcome::{Outcome, RunRefusal};

@@ -1,6 +1,7 @@
 //! One setting of a run.
 
-ghost use Rattle.std.specs.Prelude.{◌≡◌, ◌≤◌, ◌<◌, ◌↔◌, ℕ, IsTrue, All, MatchOption, length, MatchResult, OnOk, IfErr, IfSome};
+ghost use Rattle.std.specs.Prelude.{◌≡◌, ◌≤◌, ◌<◌, ◌↔◌, ℕ, IsTrue, All, MatchOption, length};
+ghost use Rattle.std.specs.Prelude.{MatchResult, OnOk, IfErr, IfSome};
 ghost use Rattle.crossbar.specs.Pairs.{ArePairs};
 ghost use Rattle.setting_runner.specs.declared.outcome.StopCause.TheVariants.{Wire};
 ghost use Rattle.setting_runner.specs.Moves.{AreMovable, HaveMoved, none_sure, all_moved, AllWhole};

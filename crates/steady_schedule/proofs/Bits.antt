@@ -12,10 +12,13 @@ use Rattle.link_graph.specs.Masks.{has_bit, has_pair}
 pub bit_added : (n k i : ℕ) → has_bit (bit_or n (2 ^ k)) i ≡ (has_bit n i || k == i)
 bit_added n k i = grind (arith, nat_tests, bit_at_or n (2 ^ k) i, bit_at-pow_same k, bit_at-pow_other k i, bit_at-lt n i)
 
-pub pair_added : (masks : List ℕ) (at k u m : ℕ) → at < length masks → has_pair (set masks at (bit_or (get_or masks at 0) (2 ^ k))) u m ≡ (has_pair masks u m || (at == u && k == m))
+pub pair_added : (masks : List ℕ) (at k u m : ℕ) → at < length masks → has_pair (set masks at (bit_or (get_or masks at 0) (2 ^ k))) u m
+    ≡ (has_pair masks u m || (at == u && k == m))
 pair_added masks at k u m at_in = elim (eqb_tells at u) [
   | inl p ↦
-      let here : get_or (set masks at (bit_or (get_or masks at 0) (2 ^ k))) u 0 ≡ bit_or (get_or masks u 0) (2 ^ k) = subst (λ (w : ℕ). get_or (set masks at (bit_or (get_or masks at 0) (2 ^ k))) w 0 ≡ bit_or (get_or masks w 0) (2 ^ k)) p.1 (get_or-set_same masks at (bit_or (get_or masks at 0) (2 ^ k)) 0 at_in) in
+      let here : get_or (set masks at (bit_or (get_or masks at 0) (2 ^ k))) u 0 ≡ bit_or (get_or masks u 0) (2 ^ k) =
+      subst (λ (w : ℕ). get_or (set masks at (bit_or (get_or masks at 0) (2 ^ k))) w 0 ≡ bit_or (get_or masks w 0) (2 ^ k)) p.1
+      (get_or-set_same masks at (bit_or (get_or masks at 0) (2 ^ k)) 0 at_in) in
       rw (here, p.0) (bit_added (get_or masks u 0) k m)
   | inr p ↦
       let other = get_or-set_other masks at u (bit_or (get_or masks at 0) (2 ^ k)) 0 (λ e. p.1 (sym e)) in

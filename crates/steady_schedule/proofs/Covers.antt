@@ -29,7 +29,8 @@ none_from None b is low = refl
 none_from (Some x) b is low = absurd (false≢true (sym low ∙ is))
 
 -- a link that isn't full, and has no partner, has room
-pub has_room : (uses : List ℕ) (most x waits : ℕ) (of : List (Option ℕ)) → x < MAX_MODULES → AreCovered uses most MAX_MODULES of → partner of x ≡ None → get_or uses x 0 ≡ waits → waits ≤ most → 0 < most - get_or uses x 0
+pub has_room : (uses : List ℕ) (most x waits : ℕ) (of : List (Option ℕ)) → x < MAX_MODULES → AreCovered uses most MAX_MODULES of → partner of x ≡ None
+    → get_or uses x 0 ≡ waits → waits ≤ most → 0 < most - get_or uses x 0
 has_room uses most x waits of x_in covered none is few =
     let ne : get_or uses x 0 ≢ most = λ e. none_not_some (partner of x) none (covered x x_in e) in
     omega (arith, ne, is, few)

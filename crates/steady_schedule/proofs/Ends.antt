@@ -18,7 +18,9 @@ pub record HasEnds (batch : List Transfer) (t a b : ℕ) : Type 0 where
   pub start_low : a < MAX_MODULES
   pub answer_low : b < MAX_MODULES
 
-pub has_ends : (batch : List Transfer) (t : ℕ) (r : Link × Link) → IsBatch batch → t < length batch → option_map (λ (x : Transfer). let p : Link × Link = (start_link x, answer_link x) in p) (slice_get batch t) ≡ Some r → HasEnds batch t r.0.«module» r.1.«module»
+pub has_ends : (batch : List Transfer) (t : ℕ) (r : Link × Link) → IsBatch batch → t < length batch
+    → option_map (λ (x : Transfer). let p : Link × Link = (start_link x, answer_link x) in p) (slice_get batch t) ≡ Some r
+    → HasEnds batch t r.0.«module» r.1.«module»
 has_ends batch t r fits t_in is = elim (slice_get_cases batch t).1 [
   | inl p ↦
       let x : Transfer = p.0 in

@@ -1,5 +1,6 @@
 -- Lists of transfers by the numbers of their settings, grown one transfer at a time.
-use Rattle.std.proofs.Common.{◌≡◌, ℕ, ◌+◌, ◌-◌, ◌<◌, ◌≤◌, List, [], ◌∷◌, ◌++◌, length, get_or, drop, slice_get, Some, All, refl, sym, ap, ◌∙◌, subst, inl, inr, get_or-set_same, get_or-set_other, arith}
+use Rattle.std.proofs.Common.{◌≡◌, ℕ, ◌+◌, ◌-◌, ◌<◌, ◌≤◌, List, [], ◌∷◌, ◌++◌, length, get_or, drop, slice_get, Some, All, refl, sym, ap, ◌∙◌, subst, inl, inr, get_or-set_same, get_or-set_other}
+use Rattle.std.proofs.Common.{arith}
 use Rattle.std.specs.Prelude.{AllPairs, Contains}
 use Rattle.std.proofs.lemmas.Bool.{cases_eq, cases_lt}
 use Rattle.std.proofs.lemmas.List.{get_or_default, length-set, get_or_past, get_or_append_left, get_or_push, length_push, map_push}
@@ -59,15 +60,23 @@ module _ (numbers : List ℕ) (k count : ℕ) (lists : List (List ℕ)) (k_in : 
   pub gathered_more : AreGathered more count (with_pushed lists k t)
   gathered_more = record {
     sized = length-set lists k (old ++ t ∷ []) ∙ so_far.sized;
-    ascending = All-set (AllPairs (λ a b. a < b)) lists k (old ++ t ∷ []) (all_pairs_push (λ a b. a < b) old t (All-get_or (AllPairs (λ a b. a < b)) lists k [] in_lists so_far.ascending) (λ i d lt. (so_far.within k (get_or old i d) (Contains-get_or old i d lt)).0)) so_far.ascending;
+    ascending = All-set (AllPairs (λ a b. a < b)) lists k (old ++ t ∷ [])
+        (all_pairs_push (λ a b. a < b) old t (All-get_or (AllPairs (λ a b. a < b)) lists k [] in_lists so_far.ascending)
+        (λ i d lt. (so_far.within k (get_or old i d) (Contains-get_or old i d lt)).0)) so_far.ascending;
     once = λ u lt. elim (cases_eq u t) [
       | inl e ↦ omega (arith, times_into u t k lists in_lists, one_same u t e, so_far.no_other u (omega (arith, e)))
       | inr ne ↦ omega (arith, times_into u t k lists in_lists, one_other u t ne, so_far.once u (omega (arith, ne, lt, sized_more)))
     ];
-    no_other = λ u le. omega (arith, times_into u t k lists in_lists, one_other u t (λ e. omega (arith, e, le, sized_more)), so_far.no_other u (omega (arith, le, sized_more)));
+    no_other = λ u le. omega (
+      arith,
+      times_into u t k lists in_lists,
+      one_other u t (λ e. omega (arith, e, le, sized_more)),
+      so_far.no_other u (omega (arith, le, sized_more)),
+    );
     within = λ j u stands. elim (cases_eq j k) [
       | inl e ↦
-          let here : get_or (with_pushed lists k t) j [] ≡ old ++ t ∷ [] = ap (λ (i : ℕ). get_or (with_pushed lists k t) i []) e ∙ get_or-set_same lists k (old ++ t ∷ []) [] in_lists in
+          let here : get_or (with_pushed lists k t) j [] ≡ old ++ t ∷ [] = ap (λ (i : ℕ). get_or (with_pushed lists k t) i []) e
+          ∙ get_or-set_same lists k (old ++ t ∷ []) [] in_lists in
           elim (Contains-push_cases old t u (subst (λ (xs : List ℕ). Contains xs u) here stands)) [
             | inl before ↦ let was = stood k u before in (was.0, was.1 ∙ sym e)
             | inr same ↦ (omega (arith, sized_more, same), get_or_push numbers k 0 u same ∙ sym e)
@@ -78,30 +87,37 @@ module _ (numbers : List ℕ) (k count : ℕ) (lists : List (List ℕ)) (k_in : 
 
 -- ---- settings of the numbers that are read
 
-pub none_into : (batch : List Transfer) (totals slots : List ℕ) (settings : ℕ) (lists : List (List ℕ)) → AreEmpty lists settings → AreReadInto batch totals slots settings 0 lists
+pub none_into : (batch : List Transfer) (totals slots : List ℕ) (settings : ℕ) (lists : List (List ℕ)) → AreEmpty lists settings
+    → AreReadInto batch totals slots settings 0 lists
 none_into batch totals slots settings lists empty = record {
   numbers = [];
   read = record { sized = refl; at = λ t x lt. absurd (omega arith) };
   gathered = none_gathered lists settings empty;
 }
 
-pub read_into : (batch : List Transfer) (totals slots : List ℕ) (settings n number : ℕ) (x : Transfer) (lists : List (List ℕ)) → number < settings → AreReadInto batch totals slots settings n lists → slice_get batch n ≡ Some x → number ≡ slot totals slots x.initiator x.responder (pair_count (drop (n + 1) batch) x.initiator x.responder) → AreReadInto batch totals slots settings (n + 1) (with_pushed lists number n)
+pub read_into : (batch : List Transfer) (totals slots : List ℕ) (settings n number : ℕ) (x : Transfer) (lists : List (List ℕ)) → number < settings
+    → AreReadInto batch totals slots settings n lists → slice_get batch n ≡ Some x → number ≡ slot totals slots x.initiator x.responder
+    (pair_count (drop (n + 1) batch) x.initiator x.responder) → AreReadInto batch totals slots settings (n + 1) (with_pushed lists number n)
 read_into batch totals slots settings n number x lists low so_far here is = record {
   numbers = so_far.numbers ++ number ∷ [];
   read = read_more batch totals slots so_far.numbers n number x so_far.read here is;
-  gathered = subst (λ (t : ℕ). AreGathered (so_far.numbers ++ number ∷ []) settings (with_pushed lists number t)) so_far.read.sized (gathered_more so_far.numbers number settings lists low so_far.gathered);
+  gathered = subst (λ (t : ℕ). AreGathered (so_far.numbers ++ number ∷ []) settings (with_pushed lists number t)) so_far.read.sized
+      (gathered_more so_far.numbers number settings lists low so_far.gathered);
 }
 
 -- a number that is read is below that of the settings
-pub low_number : (totals slots : List ℕ) (settings a b remaining number : ℕ) → AreSlotsBelow totals slots settings → a < MAX_MODULES → b < MAX_MODULES → 0 < remaining → remaining ≤ count_at totals a b → number ≡ slot totals slots a b (remaining - 1) → number < settings
-low_number totals slots settings a b remaining number below a_in b_in some few is = omega (arith, is, below a b (remaining - 1) a_in b_in (omega (arith, some, few)))
+pub low_number : (totals slots : List ℕ) (settings a b remaining number : ℕ) → AreSlotsBelow totals slots settings → a < MAX_MODULES → b < MAX_MODULES
+    → 0 < remaining → remaining ≤ count_at totals a b → number ≡ slot totals slots a b (remaining - 1) → number < settings
+low_number totals slots settings a b remaining number below a_in b_in some few is =
+    omega (arith, is, below a b (remaining - 1) a_in b_in (omega (arith, some, few)))
 
 -- ---- empty lists
 
 pub no_lists : AreEmpty [] 0
 no_lists = record { sized = refl; none = λ k d lt. absurd (omega arith) }
 
-pub more_lists : (lists all : List (Vec ℕ)) (v : Vec ℕ) (n : ℕ) → all ≡ lists ++ v ∷ [] → v.items ≡ [] → AreEmpty (lists_of lists) n → AreEmpty (lists_of all) (n + 1)
+pub more_lists : (lists all : List (Vec ℕ)) (v : Vec ℕ) (n : ℕ) → all ≡ lists ++ v ∷ [] → v.items ≡ [] → AreEmpty (lists_of lists) n
+    → AreEmpty (lists_of all) (n + 1)
 more_lists lists all v n pushed empty so_far =
     rw (pushed, map_push (λ (w : Vec ℕ). w.items) lists v)
     (record {
@@ -111,7 +127,8 @@ more_lists lists all v n pushed empty so_far =
 
 -- ---- a schedule
 
-module _ (batch : List Transfer) (count : ℕ) (numbers : List ℕ) (settings : List (List ℕ)) (proper : AreProper batch count numbers) (g : AreGathered numbers count settings) where
+module _ (batch : List Transfer) (count : ℕ) (numbers : List ℕ) (settings : List (List ℕ)) (proper : AreProper batch count numbers)
+    (g : AreGathered numbers count settings) where
   known : (k t : ℕ) → Contains (get_or settings k []) t → t < length batch
   known k t stands = omega (arith, (g.within k t stands).0, proper.sized)
 
@@ -122,7 +139,9 @@ module _ (batch : List Transfer) (count : ℕ) (numbers : List ℕ) (settings : 
         let ascend : AllPairs (λ t u. t < u) list = g.ascending k [] k_in in
         let t_stands : Contains list (get_or list i e) = Contains-get_or list i e (omega arith) in
         let u_stands : Contains list (get_or list j e) = Contains-get_or list j e j_in in
-        proper.apart (get_or list i e) (get_or list j e) (ascend i j e less j_in) (known k (get_or list j e) u_stands) ((g.within k (get_or list i e) t_stands).1 ∙ sym (g.within k (get_or list j e) u_stands).1));
+        proper.apart (get_or list i e) (get_or list j e) (ascend i j e less j_in) (known k (get_or list j e) u_stands)
+        ((g.within k (get_or list i e) t_stands).1 ∙ sym (g.within k (get_or list j e) u_stands).1));
     once = λ t t_in. g.once t (omega (arith, t_in, proper.sized));
-    no_other = λ k d k_in. subst (All (λ t. t < length batch)) (get_or_default settings k [] d k_in) (λ i e i_in. known k (get_or (get_or settings k []) i e) (Contains-get_or (get_or settings k []) i e i_in));
+    no_other = λ k d k_in. subst (All (λ t. t < length batch)) (get_or_default settings k [] d k_in)
+        (λ i e i_in. known k (get_or (get_or settings k []) i e) (Contains-get_or (get_or settings k []) i e i_in));
   }

@@ -1,5 +1,5 @@
--- Where the search for a partner of a link is in vain: the links in the way, all of which are needed,
--- and have transfers with links alone that are seen.
+-- Where the search for a partner of a link is in vain: the links in the way, all of which are
+-- needed, and have transfers with links alone that are seen.
 use Rattle.std.proofs.Common.{◌≡◌, ◌==◌, ℕ, ◌+◌, ◌-◌, ◌<◌, ◌≤◌, ◌||◌, List, get_or, Bool, true, false, not, cond, Option, Some, None, refl, sym, ◌∙◌, subst, inl, inr, arith}
 use Rattle.std.specs.Prelude.{IsSome, nat_lt}
 use Rattle.std.proofs.lemmas.Bool.{cases_Bool, cases_lt, or_cases, or_left, or_right, eqb-true, eq-eqb, false≢true, lt-ltb, and_from, and_parts, ltb-true}
@@ -58,11 +58,13 @@ module _ (unseen x : ℕ) (of : List (Option ℕ)) where
 
 -- ---- the links that a search in vain leaves
 
-pub barred_seen : (near : List ℕ) (needed unseen x : ℕ) (of back : List (Option ℕ)) → IsBarred near needed unseen x of back → (y : ℕ) → y < MAX_MODULES → has_bit unseen y ≡ false → IsSome (partner back y)
+pub barred_seen : (near : List ℕ) (needed unseen x : ℕ) (of back : List (Option ℕ)) → IsBarred near needed unseen x of back → (y : ℕ) → y < MAX_MODULES
+    → has_bit unseen y ≡ false → IsSome (partner back y)
 barred_seen near needed unseen x of back b y y_in f = let s = b.stuck y y_in f in rw s.joined refl
 
 -- each link in the way is needed, and all links near it are seen
-pub way_barred : (near : List ℕ) (needed unseen x : ℕ) (of back : List (Option ℕ)) → AreMatched of back → has_bit needed x ≡ true → IsBarred near needed unseen x of back → (z : ℕ) → IsInWay unseen x of z → (has_bit needed z ≡ true) × AllSeen near unseen z
+pub way_barred : (near : List ℕ) (needed unseen x : ℕ) (of back : List (Option ℕ)) → AreMatched of back → has_bit needed x ≡ true
+    → IsBarred near needed unseen x of back → (z : ℕ) → IsInWay unseen x of z → (has_bit needed z ≡ true) × AllSeen near unseen z
 way_barred near needed unseen x of back m is b z (inl e) = rw e (is, b.seen)
 way_barred near needed unseen x of back m is b z (inr p) =
     let s = b.stuck p.0 (partner_low of back z p.0 m p.1) p.2 in
@@ -77,11 +79,13 @@ over_low uses count n mask x over has =
     (ltb-true x n both.0, ltb-true count (get_or uses x 0) both.1)
 
 pub over_has : (uses : List ℕ) (count n mask x : ℕ) → IsOverMask uses count n mask → x < n → count < get_or uses x 0 → has_bit mask x ≡ true
-over_has uses count n mask x over lt more = over x ∙ and_from (nat_lt x n) (nat_lt count (get_or uses x 0)) (lt-ltb x n lt) (lt-ltb count (get_or uses x 0) more)
+over_has uses count n mask x over lt more = over x ∙ and_from (nat_lt x n) (nat_lt count (get_or uses x 0)) (lt-ltb x n lt)
+    (lt-ltb count (get_or uses x 0) more)
 
 -- ---- what stands in the way
 
-pub barred_is : (near : List ℕ) (needed unseen x : ℕ) (of now back back_now : List (Option ℕ)) → partner of x ≡ None → IsInVain near needed 4294967295 unseen of now back back_now → AllSeen near unseen x → IsBarred near needed unseen x now back_now
+pub barred_is : (near : List ℕ) (needed unseen x : ℕ) (of now back back_now : List (Option ℕ)) → partner of x ≡ None → IsInVain near needed 4294967295 unseen of
+    now back back_now → AllSeen near unseen x → IsBarred near needed unseen x now back_now
 barred_is near needed unseen x of now back back_now free vain seen = record {
   free = vain.same x ∙ free;
   seen = seen;
@@ -96,7 +100,9 @@ all_held counts k n zn tn some none held u v u_in v_in le = elim (cases_lt u n) 
 ]
 
 -- the links that have to be joined are those in the mask
-pub joined_over : (counts : List ℕ) (end : End) (uses : List ℕ) (needed most k n : ℕ) (of : List (Option ℕ)) → k ≤ most → NoneWait counts n → ((m : ℕ) → m < MAX_MODULES → get_or uses m 0 ≡ waiting counts end m) → IsOverMask uses (most - k) n needed → ((z : ℕ) → has_bit needed z ≡ true → IsSome (partner of z)) → (x : ℕ) → x < MAX_MODULES → most < waiting counts end x + k → IsSome (partner of x)
+pub joined_over : (counts : List ℕ) (end : End) (uses : List ℕ) (needed most k n : ℕ) (of : List (Option ℕ)) → k ≤ most → NoneWait counts n
+    → ((m : ℕ) → m < MAX_MODULES → get_or uses m 0 ≡ waiting counts end m) → IsOverMask uses (most - k) n needed
+    → ((z : ℕ) → has_bit needed z ≡ true → IsSome (partner of z)) → (x : ℕ) → x < MAX_MODULES → most < waiting counts end x + k → IsSome (partner of x)
 joined_over counts end uses needed most k n of few none is over joined x x_in more = elim (cases_lt x n) [
   | inl lt ↦ joined x (over_has uses (most - k) n needed x over lt (omega (arith, more, is x x_in, few)))
   | inr past ↦ absurd (omega (arith, more, few, none end x past x_in))

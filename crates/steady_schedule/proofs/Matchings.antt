@@ -51,7 +51,8 @@ module _ (of back : List (Option ℕ)) (x y : ℕ) (m : AreMatched of back) (x_i
         at_other back y v (Some x) (λ same. none-some u (sym y_free ∙ (ap (partner back) (sym same) ∙ (m.each_other u v).0 was))) ∙ (m.each_other u v).0 was
   ]
 
-pub joined_matched : (of back : List (Option ℕ)) (x y : ℕ) → AreMatched of back → x < MAX_MODULES → y < MAX_MODULES → partner of x ≡ None → partner back y ≡ None → AreMatched (set of x (Some y)) (set back y (Some x))
+pub joined_matched : (of back : List (Option ℕ)) (x y : ℕ) → AreMatched of back → x < MAX_MODULES → y < MAX_MODULES → partner of x ≡ None → partner back y
+    ≡ None → AreMatched (set of x (Some y)) (set back y (Some x))
 joined_matched of back x y m x_in y_in x_free y_free = record {
   sized = length-set of x (Some y) ∙ m.sized;
   back_sized = length-set back y (Some x) ∙ m.back_sized;
@@ -61,10 +62,13 @@ joined_matched of back x y m x_in y_in x_free y_free = record {
 module _ (of back : List (Option ℕ)) (x y : ℕ) (m : AreMatched of back) (joined : partner of x ≡ Some y) where
   part_way : (u v : ℕ) → partner (set of x None) u ≡ Some v → partner (set back y None) v ≡ Some u
   part_way u v e = elim (cases_eq u x) [
-    | inl here ↦ absurd (none-some v (sym (at_set of x None (omega (arith, m.sized, has_low of x y m.sized joined))) ∙ subst (λ (w : ℕ). partner (set of x None) w ≡ Some v) here e))
+    | inl here ↦ absurd
+        (none-some v (sym (at_set of x None (omega (arith, m.sized, has_low of x y m.sized joined))) ∙ subst (λ (w : ℕ). partner (set of x None) w ≡ Some v)
+        here e))
     | inr other ↦
         let was : partner of u ≡ Some v = sym (at_other of x u None other) ∙ e in
-        at_other back y v None (λ same. other (same_Some u x (sym ((m.each_other u v).0 was) ∙ (ap (partner back) same ∙ (m.each_other x y).0 joined)))) ∙ (m.each_other u v).0 was
+        at_other back y v None (λ same. other (same_Some u x (sym ((m.each_other u v).0 was) ∙ (ap (partner back) same ∙ (m.each_other x y).0 joined))))
+        ∙ (m.each_other u v).0 was
   ]
 
 pub parted_matched : (of back : List (Option ℕ)) (x y : ℕ) → AreMatched of back → partner of x ≡ Some y → AreMatched (set of x None) (set back y None)

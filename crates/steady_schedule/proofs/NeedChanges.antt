@@ -71,7 +71,13 @@ module _ (link : Link) where
   partners_few n [] = omega (arith, count_none n (meets []) (λ i. refl))
   partners_few n (x ∷ xs) =
       let more = count_within n (meets (x ∷ xs)) (λ i. joins_to link i x) (meets xs) (λ i. grind (arith, nat_tests)) in
-      omega (arith, more, count_one n (module_at (other_end link.end) x) (module_at link.end x == link.«module»), partners_few n xs, sum_by-cons (use_of link) x xs)
+      omega (
+        arith,
+        more,
+        count_one n (module_at (other_end link.end) x) (module_at link.end x == link.«module»),
+        partners_few n xs,
+        sum_by-cons (use_of link) x xs,
+      )
 
   one_partner : (n : ℕ) (batch : List Transfer) (setting : List ℕ) → IsMatching batch setting → count_below n (meets (members batch setting)) ≤ 1
   one_partner n batch setting matching = elim (cases_lt 1 (uses (members batch setting) link)) [
@@ -89,13 +95,15 @@ module _ (link : Link) where
   meets_within xs ys m within some =
       let one = Any-from_list_any (joins_to link m) xs some in
       let x : Transfer = one.1 in
-      let also : are_partners ys x.initiator x.responder ≡ true = subst (λ (z : Transfer). are_partners ys z.initiator z.responder ≡ true) one.3 (AllPass-from_list_all (λ z. are_partners ys z.initiator z.responder) xs within one.0 x one.2) in
+      let also : are_partners ys x.initiator x.responder ≡ true = subst (λ (z : Transfer). are_partners ys z.initiator z.responder ≡ true) one.3
+      (AllPass-from_list_all (λ z. are_partners ys z.initiator z.responder) xs within one.0 x one.2) in
       let other = Any-from_list_any (λ y. y.initiator == x.initiator && y.responder == x.responder) ys also in
       let y : Transfer = other.1 in
       let joined : joins_to link m y ≡ true = rw (same_modules link.end x y other.4, same_modules (other_end link.end) x y other.4) one.4 in
       list_any-from_Any (joins_to link m) ys (other.0, y, other.2, other.3, joined)
 
-  pub same_meets : (batch : List Transfer) (one other : List ℕ) (m : ℕ) → join_same batch one other ≡ true → meets (members batch one) m ≡ meets (members batch other) m
+  pub same_meets : (batch : List Transfer) (one other : List ℕ) (m : ℕ) → join_same batch one other ≡ true → meets (members batch one) m
+      ≡ meets (members batch other) m
   same_meets batch one other m same =
       let both = and_parts (join_within (members batch one) (members batch other)) (join_within (members batch other) (members batch one)) same in
       same_from_decides (meets (members batch one) m) (meets (members batch other) m)
@@ -107,7 +115,8 @@ module _ (link : Link) where
   abbrev met : List Transfer → List (List ℕ) → ℕ → Bool
   met batch settings m = list_any (λ setting. meets (members batch setting) m) settings
 
-  met_after : (n : ℕ) (batch : List Transfer) (before : List ℕ) (rest : List (List ℕ)) → All (IsMatching batch) rest → count_below n (λ m. met batch rest m && not (meets (members batch before) m)) ≤ changes_after batch before rest
+  met_after : (n : ℕ) (batch : List Transfer) (before : List ℕ) (rest : List (List ℕ)) → All (IsMatching batch) rest
+      → count_below n (λ m. met batch rest m && not (meets (members batch before) m)) ≤ changes_after batch before rest
   met_after n batch before [] matchings = omega (arith, count_none n (λ m. false && not (meets (members batch before) m)) (λ i. refl))
   met_after n batch before (setting ∷ rest) matchings =
       let next = met_after n batch setting rest (All-tail (IsMatching batch) setting rest matchings) in
@@ -117,20 +126,28 @@ module _ (link : Link) where
       elim (cases_Bool (join_same batch before setting)) [
         | inl same ↦
             let none = count_none n (λ m. false) (λ i. refl) in
-            let within = count_within n (λ m. (now m || later m) && not (was m)) (λ m. later m && not (now m)) (λ m. false) (λ m. within_same (was m) (now m) (later m) (same_meets batch before setting m same)) in
+            let within = count_within n (λ m. (now m || later m) && not (was m)) (λ m. later m && not (now m)) (λ m. false)
+            (λ m. within_same (was m) (now m) (later m) (same_meets batch before setting m same)) in
             rw same (omega (arith, next, none, within))
         | inr differ ↦
-            let within = count_within n (λ m. (now m || later m) && not (was m)) (λ m. later m && not (now m)) now (λ m. within_new (was m) (now m) (later m)) in
+            let within = count_within n (λ m. (now m || later m) && not (was m)) (λ m. later m && not (now m)) now
+            (λ m. within_new (was m) (now m) (later m)) in
             rw differ (omega (arith, next, within, one_partner n batch setting (All-head (IsMatching batch) setting rest matchings)))
       ]
 
-  met_all : (n : ℕ) (batch : List Transfer) (settings : List (List ℕ)) → All (IsMatching batch) settings → count_below n (met batch settings) ≤ changes batch settings
+  met_all : (n : ℕ) (batch : List Transfer) (settings : List (List ℕ)) → All (IsMatching batch) settings → count_below n (met batch settings) ≤ changes batch
+      settings
   met_all n batch [] matchings = omega (arith, count_none n (met batch []) (λ i. refl))
   met_all n batch (setting ∷ rest) matchings =
       let now : ℕ → Bool = meets (members batch setting) in
       let later : ℕ → Bool = met batch rest in
       let within = count_within n (λ m. now m || later m) (λ m. later m && not (now m)) now (λ m. within_first (now m) (later m)) in
-      omega (arith, within, one_partner n batch setting (All-head (IsMatching batch) setting rest matchings), met_after n batch setting rest (All-tail (IsMatching batch) setting rest matchings))
+      omega (
+        arith,
+        within,
+        one_partner n batch setting (All-head (IsMatching batch) setting rest matchings),
+        met_after n batch setting rest (All-tail (IsMatching batch) setting rest matchings),
+      )
 
   -- ---- each transfer stands in a setting
 
@@ -139,11 +156,13 @@ module _ (link : Link) where
       let one = Any-from_list_any (joins_to link m) batch some in
       let here : slice_get batch one.0 ≡ Some one.1 = slice_get-get_or batch one.0 one.1 one.2 ∙ ap (λ (x : Transfer). Some x) one.3 in
       let at = some_stands one.0 settings (omega (arith, schedule.once one.0 one.2)) in
-      list_any_at (λ setting. meets (members batch setting) m) settings at.0 [] at.1 (member_any batch (get_or settings at.0 []) (joins_to link m) one.0 one.1 at.2 here one.4)
+      list_any_at (λ setting. meets (members batch setting) m) settings at.0 [] at.1 (member_any batch (get_or settings at.0 []) (joins_to link m) one.0 one.1
+      at.2 here one.4)
 
 pub need_changes : (batch : List Transfer) (settings : List (List ℕ)) (link : Link) → IsScheduleOf batch settings → partners batch link ≤ changes batch settings
 unfolding partners
 need_changes batch settings link schedule =
     let none = count_none MAX_MODULES (λ m. false) (λ i. refl) in
-    let within = count_within MAX_MODULES (meets link batch) (met link batch settings) (λ m. false) (λ m. implied (meets link batch m) (met link batch settings m) (all_met link batch settings m schedule)) in
+    let within = count_within MAX_MODULES (meets link batch) (met link batch settings) (λ m. false)
+    (λ m. implied (meets link batch m) (met link batch settings m) (all_met link batch settings m schedule)) in
     omega (arith, within, none, met_all link MAX_MODULES batch settings schedule.matchings)

@@ -30,7 +30,10 @@ use Rattle.steady_schedule.proofs.Sums.{partner_cases}
 pub none_over : (totals remaining slots : List ℕ) (settings : ℕ) → AreAtNeed totals remaining slots settings 0
 none_over totals remaining slots settings d lt = absurd (omega arith)
 
-module _ (totals remaining slots remaining_now slots_now : List ℕ) (zeros threes : List (Option ℕ)) (m : AreMatched zeros threes) (settings first k : ℕ) (first_in : first ≤ settings) (taken : AreTaken zeros k MAX_MODULES remaining remaining_now) (h : HaveMost remaining (settings - first)) (can : CanHold remaining zeros threes (settings - first) k) (kept : KeepNumbers totals first remaining slots remaining_now slots_now) (now : AreNumberedFrom zeros first MAX_MODULES totals remaining_now slots_now (first + k)) where
+module _ (totals remaining slots remaining_now slots_now : List ℕ) (zeros threes : List (Option ℕ)) (m : AreMatched zeros threes) (settings first k : ℕ)
+    (first_in : first ≤ settings) (taken : AreTaken zeros k MAX_MODULES remaining remaining_now) (h : HaveMost remaining (settings - first))
+    (can : CanHold remaining zeros threes (settings - first) k) (kept : KeepNumbers totals first remaining slots remaining_now slots_now)
+    (now : AreNumberedFrom zeros first MAX_MODULES totals remaining_now slots_now (first + k)) where
   kept_link : (d : ℕ) (end : End) (x : ℕ) → d < first → LinkHas totals remaining slots d end x → LinkHas totals remaining_now slots_now d end x
   kept_link d Zero x lt has = (has.0, kept.old x has.0 d lt has.1)
   kept_link d Three x lt has = (has.0, kept.old has.0 x d lt has.1)
@@ -44,7 +47,8 @@ module _ (totals remaining slots remaining_now slots_now : List ℕ) (zeros thre
   joined_now d u v from has = (now.recent u v has.0 has.1 (omega (arith, from, has.2))).1
 
   -- a full link has each number of the step
-  full_has : (d : ℕ) (end : End) (x : ℕ) → x < MAX_MODULES → waiting remaining end x ≡ settings - first → first ≤ d → d < first + k → LinkHas totals remaining_now slots_now d end x
+  full_has : (d : ℕ) (end : End) (x : ℕ) → x < MAX_MODULES → waiting remaining end x ≡ settings - first → first ≤ d → d < first + k
+      → LinkHas totals remaining_now slots_now d end x
   full_has d Zero x x_in full from to = partner_cases (partner zeros x) (LinkHas totals remaining_now slots_now d Zero x)
       (λ none. absurd (omega (arith, (can.each x x_in).zero_out none, full, can.some)))
       (λ y joined. (y, now.each x y d x_in joined from to))
@@ -72,9 +76,11 @@ module _ (totals remaining slots remaining_now slots_now : List ℕ) (zeros thre
       (omega (arith, full, full_joined zeros threes m k remaining remaining_now taken (settings - first) h can end x x_in full_now))
 
   -- something is over with the last number of the step
-  step_over : (d : ℕ) → d + 1 ≡ first + k → d + 1 < settings → IsTight remaining zeros threes (settings - first) k → IsOverAt totals remaining_now slots_now settings (first + k) d
+  step_over : (d : ℕ) → d + 1 ≡ first + k → d + 1 < settings → IsTight remaining zeros threes (settings - first) k → IsOverAt totals remaining_now slots_now
+      settings (first + k) d
   step_over d last lt (all is) = absurd (omega (arith, last, lt, is, first_in))
-  step_over d last lt (by_pair x y joined is) = pair_at x y (now.each x y d (has_low zeros x y m.sized joined) joined (omega (arith, last, can.some)) (omega (arith, last)))
+  step_over d last lt (by_pair x y joined is) =
+      pair_at x y (now.each x y d (has_low zeros x y m.sized joined) joined (omega (arith, last, can.some)) (omega (arith, last)))
       (λ e later has. absurd (omega (arith, last, later, has.2, now.numbered.below x y has.0 has.1)))
       (omega (arith, is, at_pair zeros threes m k remaining remaining_now taken x y joined))
   step_over d last lt (by_zero x x_in none is) = link_at Zero x x_in
@@ -112,7 +118,8 @@ module _ (totals remaining slots remaining_now slots_now : List ℕ) (zeros thre
 
 -- ---- the settings
 
-module _ (batch : List Transfer) (numbers : List ℕ) (settings : List (List ℕ)) (count : ℕ) (sized : length numbers ≡ length batch) (g : AreGathered numbers count settings) where
+module _ (batch : List Transfer) (numbers : List ℕ) (settings : List (List ℕ)) (count : ℕ) (sized : length numbers ≡ length batch)
+    (g : AreGathered numbers count settings) where
   joined_no_more : (d u v : ℕ) → (JoinsAs batch numbers d u v → ⊥) → are_partners (members batch (get_or settings d [])) u v ≡ false
   joined_no_more d u v none = elim (cases_Bool (are_partners (members batch (get_or settings d [])) u v)) [
     | inl some ↦ absurd (none (joins_out batch numbers settings count sized g d u v some))
@@ -122,7 +129,8 @@ module _ (batch : List Transfer) (numbers : List ℕ) (settings : List (List ℕ
   used_in : (d : ℕ) (link : Link) → UsesAs batch numbers d link → IsUsed batch (get_or settings d []) link
   used_in d link u = (
     u.t,
-    subst (λ (k : ℕ). Contains (get_or settings k []) u.t) u.number (stands_at batch numbers settings count sized g u.t (slice_get_within batch u.t u.used.0 u.used.1)),
+    subst (λ (k : ℕ). Contains (get_or settings k []) u.t) u.number
+        (stands_at batch numbers settings count sized g u.t (slice_get_within batch u.t u.used.0 u.used.1)),
     u.used,
   )
 
@@ -130,8 +138,10 @@ module _ (batch : List Transfer) (numbers : List ℕ) (settings : List (List ℕ
   used_out d link is = record { t = is.0; used = is.2; number = (g.within d is.0 is.1).1 }
 
   over_gathered : (d : ℕ) → IsOverAs batch count numbers d → IsOver batch settings d
-  over_gathered d (pair_as u v j none) = pair_over u v (joins_in batch numbers settings count sized g d u v j) (λ e later to. joined_no_more e u v (none e later))
-  over_gathered d (link_as link unused used) = link_over link (λ is. unused (used_out d link is)) (λ e later to. used_in e link (used e later (omega (arith, to, g.sized))))
+  over_gathered d (pair_as u v j none) = pair_over u v (joins_in batch numbers settings count sized g d u v j)
+      (λ e later to. joined_no_more e u v (none e later))
+  over_gathered d (link_as link unused used) = link_over link (λ is. unused (used_out d link is))
+      (λ e later to. used_in e link (used e later (omega (arith, to, g.sized))))
 
   pub needs_gathered : HaveNeeds batch count numbers → ChangesAtNeed batch settings
   needs_gathered needs d lt differ = elim (needs d (omega (arith, lt, g.sized))) [

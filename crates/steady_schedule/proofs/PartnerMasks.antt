@@ -1,5 +1,6 @@
 -- The masks of partners, and the link that has the most.
-use Rattle.std.proofs.Common.{◌≡◌, ◌≢◌, ◌==◌, ℕ, zero, suc, ◌+◌, ◌^◌, ◌<◌, ◌≤◌, List, [], ◌∷◌, ◌++◌, get_or, set, replicate, Bool, true, ◌&&◌, ◌||◌, refl, sym, ap, ◌∙◌, inl, inr, add-one, eq-eqb, arith}
+use Rattle.std.proofs.Common.{◌≡◌, ◌≢◌, ◌==◌, ℕ, zero, suc, ◌+◌, ◌^◌, ◌<◌, ◌≤◌, List, [], ◌∷◌, ◌++◌, get_or, set, replicate, Bool, true, ◌&&◌, ◌||◌, refl, sym, ap, ◌∙◌, inl, inr, add-one, eq-eqb}
+use Rattle.std.proofs.Common.{arith}
 use Rattle.std.specs.Prelude.{nat_lt}
 use Rattle.std.specs.Int.RustNames.{bit_or}
 use Rattle.std.specs.List.{list_any, IsFirstBest}
@@ -37,7 +38,8 @@ any_push p xs x = list_any-append p xs (x ∷ []) ∙ ap (λ (b : Bool). list_an
 pub no_masks : ArePartnerMasks [] (replicate LINKS 0)
 no_masks = record { places = length-replicate {A = ℕ} LINKS 0; at = λ link m low m_low. no_pair LINKS (link_index link) m }
 
-module _ (xs : List Transfer) (x : Transfer) (masks : List ℕ) (a b : ℕ) (so_far : ArePartnerMasks xs masks) (start : a ≡ x.initiator) (answer : b ≡ x.responder) (start_low : a < MAX_MODULES) (answer_low : b < MAX_MODULES) where
+module _ (xs : List Transfer) (x : Transfer) (masks : List ℕ) (a b : ℕ) (so_far : ArePartnerMasks xs masks) (start : a ≡ x.initiator) (answer : b ≡ x.responder)
+    (start_low : a < MAX_MODULES) (answer_low : b < MAX_MODULES) where
   abbrev one : List ℕ
   one = set masks a (bit_or (get_or masks a 0) (2 ^ b))
 
@@ -57,7 +59,8 @@ module _ (xs : List Transfer) (x : Transfer) (masks : List ℕ) (a b : ℕ) (so_
 
   pub masks_more : ArePartnerMasks (xs ++ x ∷ []) both
   masks_more = record {
-    places = length-set one (MAX_MODULES + b) (bit_or (get_or one (MAX_MODULES + b) 0) (2 ^ a)) ∙ (length-set masks a (bit_or (get_or masks a 0) (2 ^ b)) ∙ so_far.places);
+    places = length-set one (MAX_MODULES + b) (bit_or (get_or one (MAX_MODULES + b) 0) (2 ^ a))
+        ∙ (length-set masks a (bit_or (get_or masks a 0) (2 ^ b)) ∙ so_far.places);
     at = λ link m low m_low. more_at link.end link.«module» m low m_low;
   }
 
@@ -70,18 +73,21 @@ pub bits_set_is : (mask n : ℕ) → n ≡ MAX_MODULES → count_below n (λ m. 
 unfolding bits_set
 bits_set_is mask n all = ap (λ (k : ℕ). count_below k (λ m. has_bit mask m)) all
 
-module _ (batch : List Transfer) (masks counts : List ℕ) (fits : IsBatch batch) (are : ArePartnerMasks batch masks) (counted : (k : ℕ) → k < LINKS → get_or counts k 0 ≡ bits_set (get_or masks k 0)) where
+module _ (batch : List Transfer) (masks counts : List ℕ) (fits : IsBatch batch) (are : ArePartnerMasks batch masks)
+    (counted : (k : ℕ) → k < LINKS → get_or counts k 0 ≡ bits_set (get_or masks k 0)) where
   partners_at : (link : Link) → link.«module» < MAX_MODULES → partners batch link ≡ get_or counts (link_index link) 0
   unfolding partners bits_set
   partners_at link low =
-      sym (counted (link_index link) (index_below link low) ∙ count_below_same MAX_MODULES (λ m. has_pair masks (link_index link) m) (λ m. list_any (joins_to link m) batch) (λ m m_low. are.at link m low m_low))
+      sym (counted (link_index link) (index_below link low) ∙ count_below_same MAX_MODULES (λ m. has_pair masks (link_index link) m)
+      (λ m. list_any (joins_to link m) batch) (λ m m_low. are.at link m low m_low))
 
   partners_outside : (link : Link) → MAX_MODULES ≤ link.«module» → partners batch link ≡ 0
   unfolding partners
   partners_outside link far = omega (arith, partners_few link MAX_MODULES batch, uses_outside batch link fits far)
 
   module _ (most : ℕ) (best : IsFirstBest (λ a b. nat_lt b a) counts LINKS most) where
-    pub most_is : (link : Link) → get_or counts most 0 ≢ 0 → link_index link ≡ most → link.«module» < MAX_MODULES → HasMostPartners batch link × (get_or counts most 0 ≡ partners batch link)
+    pub most_is : (link : Link) → get_or counts most 0 ≢ 0 → link_index link ≡ most → link.«module» < MAX_MODULES → HasMostPartners batch link
+        × (get_or counts most 0 ≡ partners batch link)
     most_is link some at low =
         let here : partners batch link ≡ get_or counts most 0 = partners_at link low ∙ ap (λ (i : ℕ). get_or counts i 0) at in (
           record {
@@ -111,10 +117,19 @@ count_some (suc n) k p lt passes = elim (cases_eq k n) [
 some_partner : (x : Transfer) (xs : List Transfer) → x.responder < MAX_MODULES → 0 < partners (x ∷ xs) (start_link x)
 unfolding partners
 some_partner x xs low =
-    count_some MAX_MODULES x.responder (λ m. list_any (joins_to (start_link x) m) (x ∷ xs)) low (or_left (joins_to (start_link x) x.responder x) (list_any (joins_to (start_link x) x.responder) xs) (rw (eq-eqb x.initiator x.initiator refl, eq-eqb x.responder x.responder refl) refl))
+    count_some MAX_MODULES x.responder (λ m. list_any (joins_to (start_link x) m) (x ∷ xs)) low
+    (or_left (joins_to (start_link x) x.responder x) (list_any (joins_to (start_link x) x.responder) xs)
+    (rw (eq-eqb x.initiator x.initiator refl, eq-eqb x.responder x.responder refl) refl))
 
-pub none_joined : (batch : List Transfer) (masks counts : List ℕ) (most : ℕ) → IsBatch batch → ArePartnerMasks batch masks → ((k : ℕ) → k < LINKS → get_or counts k 0 ≡ bits_set (get_or masks k 0)) → IsFirstBest (λ a b. nat_lt b a) counts LINKS most → get_or counts most 0 ≡ 0 → batch ≡ []
+pub none_joined : (batch : List Transfer) (masks counts : List ℕ) (most : ℕ) → IsBatch batch → ArePartnerMasks batch masks
+    → ((k : ℕ) → k < LINKS → get_or counts k 0 ≡ bits_set (get_or masks k 0)) → IsFirstBest (λ a b. nat_lt b a) counts LINKS most → get_or counts most 0 ≡ 0
+    → batch ≡ []
 none_joined [] masks counts most fits are counted best none = refl
 none_joined (x ∷ xs) masks counts most fits are counted best none =
     let within = All-head (IsWithin widest) x xs fits.within in
-    absurd (omega (arith, some_partner x xs within.0.1, partners_at (x ∷ xs) masks counts fits are counted (start_link x) within.0.0, ltb-false _ _ (best.1 (link_index (start_link x)) 0 (index_below (start_link x) within.0.0))))
+    absurd (omega (
+      arith,
+      some_partner x xs within.0.1,
+      partners_at (x ∷ xs) masks counts fits are counted (start_link x) within.0.0,
+      ltb-false _ _ (best.1 (link_index (start_link x)) 0 (index_below (start_link x) within.0.0)),
+    ))

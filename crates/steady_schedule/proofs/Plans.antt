@@ -23,7 +23,8 @@ no_items : (xs : List ℕ) → length xs ≤ 0 → xs ≡ []
 no_items [] le = refl
 no_items (x ∷ xs) le = absurd (omega arith)
 
-module _ (batch : List Transfer) (settings : List (List ℕ)) (k : ℕ) (k_in : k < length settings) (empty : get_or settings k [] ≡ []) (schedule : IsScheduleOf batch settings) where
+module _ (batch : List Transfer) (settings : List (List ℕ)) (k : ℕ) (k_in : k < length settings) (empty : get_or settings k [] ≡ [])
+    (schedule : IsScheduleOf batch settings) where
   all_fewer : (P : List ℕ → Type 0) → All P settings → All P (remove settings k)
   all_fewer P all = All-append P (take k settings) (drop (suc k) settings) (All-take P k settings all) (All-drop P (suc k) settings all)
 
@@ -45,7 +46,8 @@ none_empty batch settings s k d k_in = elim (cases_lt 0 (length (get_or settings
       absurd (omega (arith, s.least (remove settings k) (without_empty batch settings k k_in empty s.schedule), length-remove settings k k_in))
 ]
 
-pub certified_none_empty : (batch : List Transfer) (settings : List (List ℕ)) (named : Naming) → IsScheduleOf batch settings → IsCertificate batch settings named → All (λ setting. 0 < length setting) settings
+pub certified_none_empty : (batch : List Transfer) (settings : List (List ℕ)) (named : Naming) → IsScheduleOf batch settings
+    → IsCertificate batch settings named → All (λ setting. 0 < length setting) settings
 certified_none_empty batch settings named schedule certificate = none_empty batch settings (certified batch settings named schedule certificate)
 
 abbrev change_of : Bool → ℕ
@@ -64,6 +66,7 @@ changes_few batch (setting ∷ rest) = omega (arith, after_few batch setting res
 
 -- ---- the busiest link
 
-pub named_most : (batch : List Transfer) (link : Option Link) (named : List ℕ) → NamesBusiest batch link named → (other : Link) → uses batch other ≤ length named
+pub named_most : (batch : List Transfer) (link : Option Link) (named : List ℕ) → NamesBusiest batch link named → (other : Link)
+    → uses batch other ≤ length named
 named_most batch None named n other = rw n.0 (omega arith)
 named_most batch (Some link) named n other = omega (arith, n.0.most other, n.2)

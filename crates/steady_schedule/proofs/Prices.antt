@@ -1,4 +1,5 @@
--- What prices show: over the steps of a schedule, each of which has each link with one partner, or idle.
+-- What prices show: over the steps of a schedule, each of which has each link with one partner, or
+-- idle.
 use Rattle.std.proofs.Common.{◌≡◌, ℕ, zero, suc, ◌+◌, ◌-◌, ◌*◌, ◌/◌, ◌<◌, ◌≤◌, List, [], ◌∷◌, length, All, Bool, true, cond, refl, sym, ap, subst, ◌∙◌, inl, inr, add-one, zero-add, arith}
 use Rattle.std.specs.Prelude.{nat_lt, sum_by}
 use Rattle.std.specs.List.{AllByRecursion}
@@ -43,7 +44,8 @@ made_of costs price top most none more (k ∷ ks) all few =
     let rest = made_of costs price top most none more ks (All-tail (IsLength top) k ks all) (omega (arith, few, split)) in
     omega (arith, ap costs turned, more (sum_by (λ n. n) ks) k head.0 head.1 (omega (arith, few, split)), rest, sum_by-cons price k ks)
 
-pub made_up : (costs price : ℕ → ℕ) (top most : ℕ) → costs 0 ≡ 0 → ((v k : ℕ) → 0 < k → k ≤ top → v + k ≤ most → costs (v + k) ≤ costs v + price k) → CostsAtLeast price top most (costs most)
+pub made_up : (costs price : ℕ → ℕ) (top most : ℕ) → costs 0 ≡ 0 → ((v k : ℕ) → 0 < k → k ≤ top → v + k ≤ most → costs (v + k) ≤ costs v + price k)
+    → CostsAtLeast price top most (costs most)
 made_up costs price top most none more lengths all is = omega (arith, ap costs is, made_of costs price top most none more lengths all (omega (arith, is)))
 
 -- two numbers, of which the smaller one is a length, are as cheap as a number and a length
@@ -66,13 +68,15 @@ split_more costs price top n cost none more one two v k some few is = elim (case
       ]
 ]
 
-same_sum : (f g : ℕ → ℕ) (top : ℕ) → ((k : ℕ) → 0 < k → k ≤ top → f k ≡ g k) → (lengths : List ℕ) → All (IsLength top) lengths → sum_by f lengths ≡ sum_by g lengths
+same_sum : (f g : ℕ → ℕ) (top : ℕ) → ((k : ℕ) → 0 < k → k ≤ top → f k ≡ g k) → (lengths : List ℕ) → All (IsLength top) lengths → sum_by f lengths
+    ≡ sum_by g lengths
 same_sum f g top same [] all = refl
 same_sum f g top same (k ∷ ks) all =
     let head = All-head (IsLength top) k ks all in
     omega (arith, sum_by-cons f k ks, sum_by-cons g k ks, same k head.0 head.1, same_sum f g top same ks (All-tail (IsLength top) k ks all))
 
-pub same_prices : (f g : ℕ → ℕ) (top number cost : ℕ) → ((k : ℕ) → 0 < k → k ≤ top → f k ≡ g k) → CostsAtLeast f top number cost → CostsAtLeast g top number cost
+pub same_prices : (f g : ℕ → ℕ) (top number cost : ℕ) → ((k : ℕ) → 0 < k → k ≤ top → f k ≡ g k) → CostsAtLeast f top number cost
+    → CostsAtLeast g top number cost
 same_prices f g top number cost same cheap lengths all is = omega (arith, cheap lengths all is, same_sum f g top same lengths all)
 
 -- ---- fair prices
@@ -80,14 +84,19 @@ same_prices f g top number cost same cheap lengths all is = omega (arith, cheap 
 pub price_low : (prices : List ℕ) (top l k : ℕ) → AreFair prices top → l < LINKS → 0 < k → k ≤ top → price_at prices l k ≤ SCALE
 price_low prices top l k fair l_in some few = omega (arith, at_most_sum LINKS l (λ i. price_at prices i k) l_in, fair.each k some few)
 
-side_low : (prices : List ℕ) (top m l k : ℕ) → AreFair prices top → (m < MAX_MODULES → l < LINKS) → 0 < k → k ≤ top → cond (nat_lt m MAX_MODULES) (price_at prices l k) 0 ≤ SCALE
+side_low : (prices : List ℕ) (top m l k : ℕ) → AreFair prices top → (m < MAX_MODULES → l < LINKS) → 0 < k → k ≤ top
+    → cond (nat_lt m MAX_MODULES) (price_at prices l k) 0 ≤ SCALE
 side_low prices top m l k fair l_in some few = elim (cases_lt m MAX_MODULES) [
   | inl lt ↦ rw (lt-ltb m MAX_MODULES lt) (price_low prices top l k fair (l_in lt) some few)
   | inr le ↦ rw (le-ltb m MAX_MODULES le) (omega arith)
 ]
 
 pub both_low : (prices : List ℕ) (top u v k : ℕ) → AreFair prices top → 0 < k → k ≤ top → price_for prices u v k ≤ 131072
-both_low prices top u v k fair some few = omega (arith, side_low prices top u u k fair (λ lt. omega (arith, lt)) some few, side_low prices top v (MAX_MODULES + v) k fair (λ lt. omega (arith, lt)) some few)
+both_low prices top u v k fair some few = omega (
+  arith,
+  side_low prices top u u k fair (λ lt. omega (arith, lt)) some few,
+  side_low prices top v (MAX_MODULES + v) k fair (λ lt. omega (arith, lt)) some few,
+)
 
 -- ---- steps that make up a number
 
@@ -101,7 +110,14 @@ kept_sum b s f [] = refl
 kept_sum b s f (j ∷ js) = elim (cases_Bool (b j)) [
   | inl t ↦
       let here : kept b s (j ∷ js) ≡ s j ∷ kept b s js = rw t refl in
-      omega (arith, ap (sum_by f) here, sum_by-cons f (s j) (kept b s js), sum_by-cons (λ j. only (b j) (f (s j))) j js, ap (λ (x : Bool). only x (f (s j))) t, kept_sum b s f js)
+      omega (
+        arith,
+        ap (sum_by f) here,
+        sum_by-cons f (s j) (kept b s js),
+        sum_by-cons (λ j. only (b j) (f (s j))) j js,
+        ap (λ (x : Bool). only x (f (s j))) t,
+        kept_sum b s f js,
+      )
   | inr t ↦
       let here : kept b s (j ∷ js) ≡ kept b s js = rw t refl in
       omega (arith, ap (sum_by f) here, sum_by-cons (λ j. only (b j) (f (s j))) j js, ap (λ (x : Bool). only x (f (s j))) t, kept_sum b s f js)
@@ -115,8 +131,13 @@ kept_all b s top (j ∷ js) all = elim (cases_Bool (b j)) [
 ]
 
 -- so what a number costs is at most what the steps pay that make it up
-paid_by : {J : Type 0} (b : J → Bool) (s : J → ℕ) (price : ℕ → ℕ) (top number cost : ℕ) (js : List J) → AllByRecursion (λ j. IsLength top (s j)) js → sum_by (λ j. only (b j) (s j)) js ≡ number → CostsAtLeast price top number cost → cost ≤ sum_by (λ j. only (b j) (price (s j))) js
-paid_by b s price top number cost js all is cheap = omega (arith, cheap (kept b s js) (kept_all b s top js all) (kept_sum b s (λ k. k) js ∙ is), kept_sum b s price js)
+paid_by : {J : Type 0} (b : J → Bool) (s : J → ℕ) (price : ℕ → ℕ) (top number cost : ℕ) (js : List J) → AllByRecursion (λ j. IsLength top (s j)) js
+    → sum_by (λ j. only (b j) (s j)) js ≡ number → CostsAtLeast price top number cost → cost ≤ sum_by (λ j. only (b j) (price (s j))) js
+paid_by b s price top number cost js all is cheap = omega (
+  arith,
+  cheap (kept b s js) (kept_all b s top js all) (kept_sum b s (λ k. k) js ∙ is),
+  kept_sum b s price js,
+)
 
 -- ---- one of some places
 
@@ -160,10 +181,13 @@ module _ {J : Type 0} (n : ℕ) (s : J → ℕ) (pair : J → ℕ → ℕ → Bo
   abbrev pub pair_price : J → ℕ → ℕ → ℕ
   pair_price j u v = only (pair j u v) (p u (s j) + q v (s j))
 
-  pair_parts : (j : J) → sum_below n (λ u. sum_below n (pair_price j u)) ≡ sum_below n (λ u. sum_below n (λ v. only (pair j u v) (p u (s j)))) + sum_below n (λ v. sum_below n (λ u. only (pair j u v) (q v (s j))))
+  pair_parts : (j : J) → sum_below n (λ u. sum_below n (pair_price j u)) ≡ sum_below n (λ u. sum_below n (λ v. only (pair j u v) (p u (s j)))) + sum_below n
+      (λ v. sum_below n (λ u. only (pair j u v) (q v (s j))))
   pair_parts j =
-      let inside = sum_same n (λ u. sum_below n (pair_price j u)) (λ u. sum_below n (λ v. only (pair j u v) (p u (s j))) + sum_below n (λ v. only (pair j u v) (q v (s j)))) (λ u lt.
-      sum_same n (pair_price j u) (λ v. only (pair j u v) (p u (s j)) + only (pair j u v) (q v (s j))) (λ v v_in. split_only (pair j u v) (p u (s j)) (q v (s j)))
+      let inside = sum_same n (λ u. sum_below n (pair_price j u))
+      (λ u. sum_below n (λ v. only (pair j u v) (p u (s j))) + sum_below n (λ v. only (pair j u v) (q v (s j)))) (λ u lt.
+      sum_same n (pair_price j u) (λ v. only (pair j u v) (p u (s j)) + only (pair j u v) (q v (s j)))
+      (λ v v_in. split_only (pair j u v) (p u (s j)) (q v (s j)))
       ∙ sum_both n (λ v. only (pair j u v) (p u (s j))) (λ v. only (pair j u v) (q v (s j)))) in
       let both = sum_both n (λ u. sum_below n (λ v. only (pair j u v) (p u (s j)))) (λ u. sum_below n (λ v. only (pair j u v) (q v (s j)))) in
       omega (arith, inside, both, sum_swap n n (λ u v. only (pair j u v) (q v (s j))))
@@ -177,9 +201,16 @@ module _ {J : Type 0} (n : ℕ) (s : J → ℕ) (pair : J → ℕ → ℕ → Bo
   -- all steps cost no more than the scale for each
   pub paid_few : (js : List J) → AllByRecursion IsPaid js → sum_below n (λ u. sum_below n (λ v. sum_by (λ j. pair_price j u v) js)) ≤ length js * scale
   paid_few js all =
-      let inside = sum_same n (λ u. sum_below n (λ v. sum_by (λ j. pair_price j u v) js)) (λ u. sum_by (λ j. sum_below n (pair_price j u)) js) (λ u lt. swap_below n (λ j. pair_price j u) js) in
+      let inside = sum_same n (λ u. sum_below n (λ v. sum_by (λ j. pair_price j u v) js)) (λ u. sum_by (λ j. sum_below n (pair_price j u)) js)
+      (λ u lt. swap_below n (λ j. pair_price j u) js) in
       let steps_few = each IsPaid (λ j. sum_below n (λ u. sum_below n (pair_price j u)) ≤ scale) step_few js all in
-      omega (arith, inside, swap_below n (λ j u. sum_below n (pair_price j u)) js, all_few (λ j. sum_below n (λ u. sum_below n (pair_price j u))) scale js steps_few)
+      omega (
+        arith,
+        inside,
+        swap_below n (λ j u. sum_below n (pair_price j u)) js,
+        all_few (λ j. sum_below n (λ u. sum_below n (pair_price j u))) scale js
+            steps_few,
+      )
 
 -- ---- the steps of a schedule
 
@@ -192,7 +223,8 @@ some_place (suc n) b one = elim (cases_Bool (b n)) [
 ]
 
 -- what a step has of a number is at most what all have
-each_few : {J : Type 0} (f : J → ℕ → ℕ) (n top : ℕ) (js : List J) → ((m : ℕ) → m < n → sum_by (λ j. f j m) js ≤ top) → AllByRecursion (λ j. (m : ℕ) → m < n → f j m ≤ top) js
+each_few : {J : Type 0} (f : J → ℕ → ℕ) (n top : ℕ) (js : List J) → ((m : ℕ) → m < n → sum_by (λ j. f j m) js ≤ top)
+    → AllByRecursion (λ j. (m : ℕ) → m < n → f j m ≤ top) js
 each_few f n top [] le = tt
 each_few f n top (j ∷ js) le =
     ((λ m lt. omega (arith, sum_by-cons (λ i. f i m) j js, le m lt)), each_few f n top js (λ m lt. omega (arith, sum_by-cons (λ i. f i m) j js, le m lt)))
@@ -204,7 +236,8 @@ both_all P Q R g (j ∷ js) ps qs = (g j ps.0 qs.0, both_all P Q R g js ps.1 qs.
 abbrev IsStepIn : List Transfer → Step → Type 0
 IsStepIn batch j = (0 < j.settings) × IsMatching batch j.setting
 
-steps_in : (batch : List Transfer) (before : List ℕ) (k : ℕ) (rest : List (List ℕ)) → 0 < k → IsMatching batch before → All (IsMatching batch) rest → AllByRecursion (IsStepIn batch) (steps_from batch before k rest)
+steps_in : (batch : List Transfer) (before : List ℕ) (k : ℕ) (rest : List (List ℕ)) → 0 < k → IsMatching batch before → All (IsMatching batch) rest
+    → AllByRecursion (IsStepIn batch) (steps_from batch before k rest)
 steps_in batch before k [] some is all = ((some, is), tt)
 steps_in batch before k (x ∷ rest) some is all =
     let x_is = All-head (IsMatching batch) x rest all in
@@ -228,7 +261,14 @@ split_sum n zero f =
     omega (arith, ap (λ (k : ℕ). sum_below k f) same, sum_zero (λ i. f (n + i)))
 split_sum n (suc m) f =
     let same : n + suc m ≡ n + m + 1 = omega arith in
-    omega (arith, ap (λ (k : ℕ). sum_below k f) same, sum_more (n + m) f, ap (λ (k : ℕ). sum_below k (λ i. f (n + i))) (add-one m), sum_more m (λ i. f (n + i)), split_sum n m f)
+    omega (
+      arith,
+      ap (λ (k : ℕ). sum_below k f) same,
+      sum_more (n + m) f,
+      ap (λ (k : ℕ). sum_below k (λ i. f (n + i))) (add-one m),
+      sum_more m (λ i. f (n + i)),
+      split_sum n m f,
+    )
 
 -- the price of a link for a length; none after all modules
 abbrev side_price : List ℕ → End → ℕ → ℕ → ℕ
@@ -248,7 +288,8 @@ number_three : (counts : List ℕ) (n u v : ℕ) → MAX_MODULES ≤ u → v < M
 number_three counts n u v le v_in = rw (le-ltb u MAX_MODULES le, lt-ltb v MAX_MODULES v_in) refl
 
 module _ (batch : List Transfer) (fits : IsBatch batch) where
-  -- whether a step joins a pair; or where the one or the other place is after all modules, whether it leaves the link idle
+  -- whether a step joins a pair; or where the one or the other place is after all modules, whether
+  -- it leaves the link idle
   abbrev joined : Step → ℕ → ℕ → Bool
   joined j u v = cond (nat_lt u MAX_MODULES) (has batch fits (made Zero u) j v) (has batch fits (made Three v) j MAX_MODULES)
 
@@ -259,7 +300,8 @@ module _ (batch : List Transfer) (fits : IsBatch batch) where
   joined_high j u v le = rw (le-ltb u MAX_MODULES le) refl
 
   turned_about : (j : Step) (u v : ℕ) → u < MAX_MODULES → v < MAX_MODULES → has batch fits (made Zero u) j v ≡ has batch fits (made Three v) j u
-  turned_about j u v u_in v_in = ap (nat_lt 0) (number_low (members batch j.setting) 1 (made Zero u) v v_in ∙ (sym (at_link (members batch j.setting) Three v u) ∙ sym (number_low (members batch j.setting) 1 (made Three v) u u_in)))
+  turned_about j u v u_in v_in = ap (nat_lt 0) (number_low (members batch j.setting) 1 (made Zero u) v v_in
+      ∙ (sym (at_link (members batch j.setting) Three v u) ∙ sym (number_low (members batch j.setting) 1 (made Three v) u u_in)))
 
   joined_three : (j : Step) (u v : ℕ) → u < MAX_MODULES + 1 → v < MAX_MODULES → joined j u v ≡ has batch fits (made Three v) j u
   joined_three j u v u_few v_in = elim (cases_lt u MAX_MODULES) [
@@ -267,15 +309,19 @@ module _ (batch : List Transfer) (fits : IsBatch batch) where
     | inr le ↦ joined_high j u v le ∙ ap (has batch fits (made Three v) j) {x = MAX_MODULES} {y = u} (omega (arith, u_few, le))
   ]
 
-  each_row : (prices : List ℕ) (k : ℕ) (j : Step) → IsMatching batch j.setting → (u : ℕ) → sum_below (MAX_MODULES + 1) (λ v. only (joined j u v) (side_price prices Zero u k)) ≡ side_price prices Zero u k
+  each_row : (prices : List ℕ) (k : ℕ) (j : Step) → IsMatching batch j.setting → (u : ℕ)
+      → sum_below (MAX_MODULES + 1) (λ v. only (joined j u v) (side_price prices Zero u k)) ≡ side_price prices Zero u k
   each_row prices k j is u = elim (cases_lt u MAX_MODULES) [
-    | inl u_in ↦ each_side (MAX_MODULES + 1) (joined j u) (has batch fits (made Zero u) j) (side_price prices Zero u k) (λ v lt. joined_low j u v u_in) (each_now batch fits (made Zero u) j.setting is)
+    | inl u_in ↦ each_side (MAX_MODULES + 1) (joined j u) (has batch fits (made Zero u) j) (side_price prices Zero u k) (λ v lt. joined_low j u v u_in)
+        (each_now batch fits (made Zero u) j.setting is)
     | inr le ↦ none_side (MAX_MODULES + 1) (joined j u) (side_price prices Zero u k) (side_none prices Zero u k le)
   ]
 
-  each_column : (prices : List ℕ) (k : ℕ) (j : Step) → IsMatching batch j.setting → (v : ℕ) → sum_below (MAX_MODULES + 1) (λ u. only (joined j u v) (side_price prices Three v k)) ≡ side_price prices Three v k
+  each_column : (prices : List ℕ) (k : ℕ) (j : Step) → IsMatching batch j.setting → (v : ℕ)
+      → sum_below (MAX_MODULES + 1) (λ u. only (joined j u v) (side_price prices Three v k)) ≡ side_price prices Three v k
   each_column prices k j is v = elim (cases_lt v MAX_MODULES) [
-    | inl v_in ↦ each_side (MAX_MODULES + 1) (λ u. joined j u v) (has batch fits (made Three v) j) (side_price prices Three v k) (λ u lt. joined_three j u v lt v_in) (each_now batch fits (made Three v) j.setting is)
+    | inl v_in ↦ each_side (MAX_MODULES + 1) (λ u. joined j u v) (has batch fits (made Three v) j) (side_price prices Three v k)
+        (λ u lt. joined_three j u v lt v_in) (each_now batch fits (made Three v) j.setting is)
     | inr le ↦ none_side (MAX_MODULES + 1) (λ u. joined j u v) (side_price prices Three v k) (side_none prices Three v k le)
   ]
 
@@ -297,8 +343,20 @@ module _ (batch : List Transfer) (fits : IsBatch batch) where
     module _ (link : Link) (longest : LimitsSteps counts (length settings) link top) where
       few_in : (m : ℕ) → m < MAX_MODULES + 1 → sum_by (λ j. taken link j m) js ≤ top
       few_in m lt = elim (cases_lt m MAX_MODULES) [
-        | inl low ↦ omega (arith, step_numbers batch fits link settings schedule m lt, number_low batch (length settings) link m low, shared_is link.end link.«module» m longest.low low, longest.most m low)
-        | inr le ↦ omega (arith, step_numbers batch fits link settings schedule m lt, number_idle batch (length settings) link m le, longest.full, uses_is link.end link.«module» longest.low)
+        | inl low ↦ omega (
+          arith,
+          step_numbers batch fits link settings schedule m lt,
+          number_low batch (length settings) link m low,
+          shared_is link.end link.«module» m longest.low low,
+          longest.most m low,
+        )
+        | inr le ↦ omega (
+          arith,
+          step_numbers batch fits link settings schedule m lt,
+          number_idle batch (length settings) link m le,
+          longest.full,
+          uses_is link.end link.«module» longest.low,
+        )
       ]
 
       -- no step is longer: the link is in it, with one partner
@@ -308,11 +366,19 @@ module _ (batch : List Transfer) (fits : IsBatch batch) where
           omega (arith, le place.0 place.1, ap (λ (b : Bool). only b j.settings) place.2)
 
       module _ (prices : List ℕ) (fair : AreFair prices top) where
-        few_side : (end : End) (k : ℕ) → sum_below (MAX_MODULES + 1) (λ m. side_price prices end m k) ≡ sum_below MAX_MODULES (λ m. price_at prices (index_by end m) k)
-        few_side end k = omega (arith, sum_more MAX_MODULES (λ m. side_price prices end m k), sum_same MAX_MODULES (λ m. side_price prices end m k) (λ m. price_at prices (index_by end m) k) (λ m lt. rw (lt-ltb m MAX_MODULES lt) refl))
+        few_side : (end : End) (k : ℕ) → sum_below (MAX_MODULES + 1) (λ m. side_price prices end m k)
+            ≡ sum_below MAX_MODULES (λ m. price_at prices (index_by end m) k)
+        few_side end k = omega (
+          arith,
+          sum_more MAX_MODULES (λ m. side_price prices end m k),
+          sum_same MAX_MODULES (λ m. side_price prices end m k)
+              (λ m. price_at prices (index_by end m) k) (λ m lt. rw (lt-ltb m MAX_MODULES lt) refl),
+        )
 
-        few_prices : (k : ℕ) → 0 < k → k ≤ top → sum_below (MAX_MODULES + 1) (λ u. side_price prices Zero u k) + sum_below (MAX_MODULES + 1) (λ v. side_price prices Three v k) ≤ SCALE
-        few_prices k some few = omega (arith, fair.each k some few, few_side Zero k, few_side Three k, split_sum MAX_MODULES MAX_MODULES (λ l. price_at prices l k))
+        few_prices : (k : ℕ) → 0 < k → k ≤ top → sum_below (MAX_MODULES + 1) (λ u. side_price prices Zero u k) + sum_below (MAX_MODULES + 1)
+            (λ v. side_price prices Three v k) ≤ SCALE
+        few_prices k some few =
+            omega (arith, fair.each k some few, few_side Zero k, few_side Three k, split_sum MAX_MODULES MAX_MODULES (λ l. price_at prices l k))
 
         abbrev IsPaidStep : Step → Type 0
         IsPaidStep = IsPaid (MAX_MODULES + 1) (λ j. j.settings) joined (side_price prices Zero) (side_price prices Three) SCALE top few_prices
@@ -327,7 +393,12 @@ module _ (batch : List Transfer) (fits : IsBatch batch) where
         pays u v = sum_by (λ j. only (joined j u v) (price_for prices u v j.settings)) js
 
         long_idle : (end : End) (m : ℕ) → m < MAX_MODULES → sum_by (λ j. taken (made end m) j MAX_MODULES) js ≡ length settings - waiting counts end m
-        long_idle end m m_in = omega (arith, step_numbers batch fits (made end m) settings schedule MAX_MODULES (omega arith), number_idle batch (length settings) (made end m) MAX_MODULES (omega arith), uses_is end m m_in)
+        long_idle end m m_in = omega (
+          arith,
+          step_numbers batch fits (made end m) settings schedule MAX_MODULES (omega arith),
+          number_idle batch (length settings) (made end m) MAX_MODULES (omega arith),
+          uses_is end m m_in,
+        )
 
         -- how long all steps together join a pair, or leave a link idle
         abbrev long : ℕ → ℕ → ℕ
@@ -335,19 +406,35 @@ module _ (batch : List Transfer) (fits : IsBatch batch) where
 
         long_zero : (u v : ℕ) → u < MAX_MODULES → v ≤ MAX_MODULES → long u v ≡ number_for counts (length settings) u v
         long_zero u v u_in v_few =
-            let same = sum_equal (λ j. only (joined j u v) j.settings) (λ j. taken (made Zero u) j v) js (λ j. ap (λ (b : Bool). only b j.settings) (joined_low j u v u_in)) in
+            let same = sum_equal (λ j. only (joined j u v) j.settings) (λ j. taken (made Zero u) j v) js
+            (λ j. ap (λ (b : Bool). only b j.settings) (joined_low j u v u_in)) in
             elim (cases_lt v MAX_MODULES) [
-              | inl v_in ↦ omega (arith, same, step_numbers batch fits (made Zero u) settings schedule v (omega (arith, v_in)), number_low batch (length settings) (made Zero u) v v_in, shared_is Zero u v u_in v_in, number_pair counts (length settings) u v u_in v_in)
-              | inr le ↦ omega (arith, same, ap (λ (k : ℕ). sum_by (λ j. taken (made Zero u) j k) js) {x = v} {y = MAX_MODULES} (omega (arith, v_few, le)), long_idle Zero u u_in, number_zero counts (length settings) u v u_in le)
+              | inl v_in ↦ omega (
+                arith,
+                same,
+                step_numbers batch fits (made Zero u) settings schedule v (omega (arith, v_in)),
+                number_low batch (length settings) (made Zero u) v v_in,
+                shared_is Zero u v u_in v_in,
+                number_pair counts (length settings) u v u_in v_in,
+              )
+              | inr le ↦ omega (
+                arith,
+                same,
+                ap (λ (k : ℕ). sum_by (λ j. taken (made Zero u) j k) js) {x = v} {y = MAX_MODULES} (omega (arith, v_few, le)),
+                long_idle Zero u u_in,
+                number_zero counts (length settings) u v u_in le,
+              )
             ]
 
         long_three : (u v : ℕ) → MAX_MODULES ≤ u → v < MAX_MODULES → long u v ≡ number_for counts (length settings) u v
-        long_three u v le v_in = sum_equal (λ j. only (joined j u v) j.settings) (λ j. taken (made Three v) j MAX_MODULES) js (λ j. ap (λ (b : Bool). only b j.settings) (joined_high j u v le))
+        long_three u v le v_in = sum_equal (λ j. only (joined j u v) j.settings) (λ j. taken (made Three v) j MAX_MODULES) js
+            (λ j. ap (λ (b : Bool). only b j.settings) (joined_high j u v le))
             ∙ (long_idle Three v v_in ∙ sym (number_three counts (length settings) u v le v_in))
 
         paid : NoneCostsMore counts (length settings) prices top pays
         paid u v cost u_few v_few cheap =
-            let by = λ (all : long u v ≡ number_for counts (length settings) u v). paid_by (λ j. joined j u v) (λ j. j.settings) (price_for prices u v) top (number_for counts (length settings) u v) cost js (each IsPaidStep (λ j. IsLength top j.settings) (λ j is. is.0) js all_paid) all cheap in
+            let by = λ (all : long u v ≡ number_for counts (length settings) u v). paid_by (λ j. joined j u v) (λ j. j.settings) (price_for prices u v) top
+            (number_for counts (length settings) u v) cost js (each IsPaidStep (λ j. IsLength top j.settings) (λ j is. is.0) js all_paid) all cheap in
             elim (cases_lt u MAX_MODULES) [
               | inl u_in ↦ by (long_zero u v u_in v_few)
               | inr le ↦ elim (cases_lt v MAX_MODULES) [
@@ -359,13 +446,15 @@ module _ (batch : List Transfer) (fits : IsBatch batch) where
             ]
 
         -- so the prices show as many changes as make this up
-        pub shown : (total : ℕ) → ((most : ℕ → ℕ → ℕ) → NoneCostsMore counts (length settings) prices top most → total ≤ sum_below (MAX_MODULES + 1) (λ u. sum_below (MAX_MODULES + 1) (most u)))
+        pub shown : (total : ℕ) → ((most : ℕ → ℕ → ℕ) → NoneCostsMore counts (length settings) prices top most → total ≤ sum_below (MAX_MODULES + 1)
+            (λ u. sum_below (MAX_MODULES + 1) (most u)))
             → (total + 65535) / 65536 ≤ changes batch settings
         shown total few =
             let all = paid_few (MAX_MODULES + 1) (λ j. j.settings) joined (side_price prices Zero) (side_price prices Three) SCALE top few_prices js all_paid in
             rounded total (changes batch settings) (omega (arith, few pays paid, all, ap (λ (k : ℕ). k * SCALE) (many_steps batch settings)))
 
-pub shown_needed : (batch : List Transfer) (fits : IsBatch batch) (counts : List ℕ) (counted : ArePairCounts batch counts) (settings top : ℕ) (link : Link) (longest : LimitsSteps counts settings link top) (prices : List ℕ) (fair : AreFair prices top) (total : ℕ)
+pub shown_needed : (batch : List Transfer) (fits : IsBatch batch) (counts : List ℕ) (counted : ArePairCounts batch counts) (settings top : ℕ) (link : Link)
+    (longest : LimitsSteps counts settings link top) (prices : List ℕ) (fair : AreFair prices top) (total : ℕ)
     → ((most : ℕ → ℕ → ℕ) → NoneCostsMore counts settings prices top most → total ≤ sum_below (MAX_MODULES + 1) (λ u. sum_below (MAX_MODULES + 1) (most u)))
     → AreNeeded batch settings ((total + 65535) / 65536)
 shown_needed batch fits counts counted settings top link longest prices fair total few schedule is same =
@@ -377,14 +466,21 @@ pub last_change : (total sum : ℕ) → 0 < (total + 65535) / 65536 → total �
 last_change total sum some few = omega (arith, some, few)
 
 -- so the changes that prices show are needed
-pub needed_by : (batch : List Transfer) (settings : ℕ) (prices : List ℕ) (top count : ℕ) → IsBatch batch → ShowChanges batch settings prices top count → AreNeeded batch settings count
+pub needed_by : (batch : List Transfer) (settings : ℕ) (prices : List ℕ) (top count : ℕ) → IsBatch batch → ShowChanges batch settings prices top count
+    → AreNeeded batch settings count
 needed_by batch settings prices top count fits shows schedule is same = elim (cases_lt 0 count) [
   | inl some ↦
       let by = shows some in
-      omega (arith, some, shown_needed batch fits by.counts by.counted settings top by.busiest by.longest prices by.fair ((count - 1) * SCALE + 1) (λ most costs. omega (arith, by.dear most costs)) schedule is same)
+      omega (
+        arith,
+        some,
+        shown_needed batch fits by.counts by.counted settings top by.busiest by.longest prices by.fair ((count - 1) * SCALE + 1)
+            (λ most costs. omega (arith, by.dear most costs)) schedule is same,
+      )
   | inr none ↦ omega (arith, none)
 ]
 
 -- no link has more that wait than a schedule has settings
-pub most_wait : (batch : List Transfer) (counts : List ℕ) (most : ℕ) → IsBatch batch → ArePairCounts batch counts → ((link : Link) → uses batch link ≤ most) → HaveMost counts most
+pub most_wait : (batch : List Transfer) (counts : List ℕ) (most : ℕ) → IsBatch batch → ArePairCounts batch counts → ((link : Link) → uses batch link ≤ most)
+    → HaveMost counts most
 most_wait batch counts most fits counted few end m m_in = omega (arith, waiting_uses batch counts end m counted (all_low batch fits) m_in, few (made end m))

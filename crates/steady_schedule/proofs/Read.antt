@@ -11,7 +11,8 @@ use Rattle.steady_schedule.proofs.Gathered.{gathered_schedule}
 use Rattle.steady_schedule.proofs.Needs.{needs_gathered}
 use Rattle.steady_schedule.proofs.Slots.{are_proper, needs_read}
 
-module _ (batch : List Transfer) (totals slots : List ℕ) (settings : ℕ) (lists : List (List ℕ)) (fits : IsBatch batch) (counted : ArePairCounts batch totals) (into : AreReadInto batch totals slots settings (length batch) lists) where
+module _ (batch : List Transfer) (totals slots : List ℕ) (settings : ℕ) (lists : List (List ℕ)) (fits : IsBatch batch) (counted : ArePairCounts batch totals)
+    (into : AreReadInto batch totals slots settings (length batch) lists) where
   pub numbered_settings : AreFilled totals slots settings → AreNumberedSettings batch settings lists
   numbered_settings f =
       let low = λ (t : ℕ) (x : Transfer) (here : slice_get batch t ≡ Some x). modules_of batch t x here fits in

@@ -16,7 +16,10 @@ use Rattle.steady_schedule.proofs.Matchings.{has_low, at_set, at_other}
 -- ---- masks
 
 pub both_bits : (m n i : ℕ) → has_bit (bit_and m n) i ≡ true → (has_bit m i ≡ true) × (has_bit n i ≡ true)
-both_bits m n i t = (grind (arith, nat_tests, bit_at_and m n i, bit_at-lt m i, bit_at-lt n i), grind (arith, nat_tests, bit_at_and m n i, bit_at-lt m i, bit_at-lt n i))
+both_bits m n i t = (
+  grind (arith, nat_tests, bit_at_and m n i, bit_at-lt m i, bit_at-lt n i),
+  grind (arith, nat_tests, bit_at_and m n i, bit_at-lt m i, bit_at-lt n i),
+)
 
 pub no_bit : (m n i : ℕ) → bit_and m n ≡ 0 → has_bit m i ≡ true → has_bit n i ≡ false
 no_bit m n i none had = grind (arith, nat_tests, bit_at_and m n i, bit_at-zero i, bit_at-lt m i, bit_at-lt n i)
@@ -78,7 +81,8 @@ module _ (near : List ℕ) (needed unseen y : ℕ) (of back : List (Option ℕ))
     not_x z none same = none-some y (sym none ∙ (ap (partner of) same ∙ own))
 
     -- its partner finds another
-    pub goes_elsewhere : (of_now back_now : List (Option ℕ)) → has_bit unseen y ≡ false → IsFound near needed unseen x of_less of_now back_less back_now → IsFreed near needed unseen y of of_now back back_now
+    pub goes_elsewhere : (of_now back_now : List (Option ℕ)) → has_bit unseen y ≡ false → IsFound near needed unseen x of_less of_now back_less back_now
+        → IsFreed near needed unseen y of of_now back back_now
     goes_elsewhere of_now back_now y_seen f = record {
       freed = f.seen_kept y y_seen ∙ y_less;
       joins_near = λ z w e. elim (f.joins_near z w e) [ inl old ↦ inl (less_joined z w old) | inr near ↦ inr near ];
@@ -92,7 +96,8 @@ module _ (near : List ℕ) (needed unseen y : ℕ) (of back : List (Option ℕ))
     }
 
     -- nobody gives way
-    module _ (of_now back_now : List (Option ℕ)) (now : ℕ) (m_now : AreMatched of_now back_now) (v : IsInVain near needed unseen now of_less of_now back_less back_now) where
+    module _ (of_now back_now : List (Option ℕ)) (now : ℕ) (m_now : AreMatched of_now back_now)
+        (v : IsInVain near needed unseen now of_less of_now back_less back_now) where
       pub x_free : partner of_now x ≡ None
       x_free = v.same x ∙ x_less
 
@@ -111,7 +116,8 @@ module _ (near : List ℕ) (needed unseen y : ℕ) (of back : List (Option ℕ))
       pub stays : IsInVain near needed unseen now of of_again back back_again
       stays = record {
         same = λ z. elim (cases_eq z x) [
-          | inl here ↦ subst (λ (w : ℕ). partner of_again w ≡ partner of w) (sym here) (at_set of_now x (Some y) (omega (arith, m_now.sized, m.sized, x_in)) ∙ sym own)
+          | inl here ↦ subst (λ (w : ℕ). partner of_again w ≡ partner of w) (sym here) (at_set of_now x (Some y) (omega (arith, m_now.sized, m.sized, x_in))
+              ∙ sym own)
           | inr other ↦ at_other of_now x z (Some y) other ∙ (v.same z ∙ at_other of x z None other)
         ];
         back_same = λ w. elim (cases_eq w y) [
@@ -127,12 +133,15 @@ module _ (near : List ℕ) (needed unseen y : ℕ) (of back : List (Option ℕ))
 
 -- ---- the search from a link
 
-module _ (near : List ℕ) (needed unseen now x y : ℕ) (of of_now back back_now : List (Option ℕ)) (v : IsInVain near needed unseen now of of_now back back_now) (is_near : has_pair near x y ≡ true) (was : has_bit now y ≡ true) (less : ℕ) (out : has_bit less y ≡ false) (others : (i : ℕ) → i ≢ y → has_bit less i ≡ has_bit now i) where
+module _ (near : List ℕ) (needed unseen now x y : ℕ) (of of_now back back_now : List (Option ℕ)) (v : IsInVain near needed unseen now of of_now back back_now)
+    (is_near : has_pair near x y ≡ true) (was : has_bit now y ≡ true) (less : ℕ) (out : has_bit less y ≡ false) (others : (i : ℕ) → i ≢ y → has_bit less i
+    ≡ has_bit now i) where
   less_fewer : (i : ℕ) → has_bit less i ≡ true → has_bit now i ≡ true
   less_fewer i t = sym (others i (λ same. false≢true (sym out ∙ (ap (has_bit less) (sym same) ∙ t)))) ∙ t
 
   -- one link more is stuck
-  pub one_stuck : (after : ℕ) (of_after back_after : List (Option ℕ)) → IsInVain near needed less after of_now of_after back_now back_after → IsStuck near needed after back_after y → IsInVain near needed unseen after of of_after back back_after
+  pub one_stuck : (after : ℕ) (of_after back_after : List (Option ℕ)) → IsInVain near needed less after of_now of_after back_now back_after
+      → IsStuck near needed after back_after y → IsInVain near needed unseen after of of_after back back_after
   one_stuck after of_after back_after w here = record {
     same = λ z. w.same z ∙ v.same z;
     back_same = λ z. w.back_same z ∙ v.back_same z;
@@ -157,7 +166,8 @@ module _ (near : List ℕ) (needed unseen now x y : ℕ) (of of_now back back_no
   }
 
   -- a link that was freed is the partner
-  module _ (of_after back_after : List (Option ℕ)) (m : AreMatched of_after back_after) (x_in : x < MAX_MODULES) (y_in : y < MAX_MODULES) (x_free : partner of x ≡ None) (f : IsFreed near needed less y of_now of_after back_now back_after) where
+  module _ (of_after back_after : List (Option ℕ)) (m : AreMatched of_after back_after) (x_in : x < MAX_MODULES) (y_in : y < MAX_MODULES)
+      (x_free : partner of x ≡ None) (f : IsFreed near needed less y of_now of_after back_now back_after) where
     abbrev of_new : List (Option ℕ)
     of_new = set of_after x (Some y)
 
@@ -181,12 +191,14 @@ module _ (near : List ℕ) (needed unseen now x y : ℕ) (of of_now back back_no
       ];
       needed_kept = λ z is_needed s. elim (cases_eq z x) [
         | inl same ↦ subst (λ (u : ℕ). IsSome (partner of_new u)) (sym same) (some_is (partner of_new x) y here)
-        | inr other ↦ along (partner of_new z) (partner of_after z) (at_other of_after x z (Some y) other) (f.needed_kept z is_needed (along (partner of_now z) (partner of z) (v.same z) s))
+        | inr other ↦ along (partner of_new z) (partner of_after z) (at_other of_after x z (Some y) other)
+            (f.needed_kept z is_needed (along (partner of_now z) (partner of z) (v.same z) s))
       ];
       free_kept = λ z ne none. at_other of_after x z (Some y) ne ∙ f.free_kept z (v.same z ∙ none);
       back_kept = λ w s. elim (cases_eq w y) [
         | inl same ↦ subst (λ (u : ℕ). IsSome (partner back_new u)) (sym same) (some_is (partner back_new y) x back_here)
-        | inr other ↦ along (partner back_new w) (partner back_after w) (at_other back_after y w (Some x) other) (f.back_kept w other (along (partner back_now w) (partner back w) (v.back_same w) s))
+        | inr other ↦ along (partner back_new w) (partner back_after w) (at_other back_after y w (Some x) other)
+            (f.back_kept w other (along (partner back_now w) (partner back w) (v.back_same w) s))
       ];
       seen_kept = λ w seen.
           let other : w ≢ y = λ same. false≢true (sym seen ∙ (ap (has_bit unseen) same ∙ v.fewer y was)) in

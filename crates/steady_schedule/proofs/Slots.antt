@@ -1,5 +1,6 @@
 -- Slots, as the numbers of some settings are written, and as they are read.
-use Rattle.std.proofs.Common.{◌≡◌, ◌≢◌, ◌==◌, ℕ, zero, suc, ◌+◌, ◌-◌, ◌*◌, ◌/◌, ◌%◌, ◌<◌, ◌≤◌, ◌⊎◌, All, List, [], ◌∷◌, ◌++◌, length, get_or, set, drop, slice_index, slice_get, Option, Some, refl, sym, ap, ◌∙◌, subst, inl, inr, get_or-set_same, get_or-set_other, arith, None, true}
+use Rattle.std.proofs.Common.{◌≡◌, ◌≢◌, ◌==◌, ℕ, zero, suc, ◌+◌, ◌-◌, ◌*◌, ◌/◌, ◌%◌, ◌<◌, ◌≤◌, ◌⊎◌, All, List, [], ◌∷◌, ◌++◌, length, get_or, set, drop, slice_index, slice_get, Option, Some, refl}
+use Rattle.std.proofs.Common.{sym, ap, ◌∙◌, subst, inl, inr, get_or-set_same, get_or-set_other, arith, None, true}
 use borrow.Author.Count.{below_more}
 use Rattle.std.proofs.lemmas.Bool.{cases_eq, cases_lt, cases_order, cases_Bool, and_parts, eqb-true}
 use Rattle.std.proofs.lemmas.List.{length_push, drop_more, get_or_append_left, get_or_push}
@@ -16,7 +17,8 @@ use Rattle.link_graph.proofs.Users.{made, at_used}
 use Rattle.link_graph.proofs.Masks.{bit}
 use Rattle.steady_schedule.specs.Matchings.{partner, AreMatched, AreBelow}
 use Rattle.steady_schedule.specs.Waiting.{sum_below, pair_count, pair_index, count_at, HaveMost, ArePairCounts}
-use Rattle.steady_schedule.specs.Slots.{LinkHas, IsOverAt, AreAtNeed, UsesAs, IsOverAs, HaveNeeds, slot, IsWritten, AreOneOrApart, AreNumbered, AreNumberedFrom, AreSlotsFilled, AreReadTo, AreProper, StandsIn, KeepNumbers, JoinsAs}
+use Rattle.steady_schedule.specs.Slots.{LinkHas, IsOverAt, AreAtNeed, UsesAs, IsOverAs, HaveNeeds, slot, IsWritten, AreOneOrApart, AreNumbered, AreNumberedFrom, AreSlotsFilled, AreReadTo, AreProper}
+use Rattle.steady_schedule.specs.Slots.{StandsIn, KeepNumbers, JoinsAs}
 use Rattle.steady_schedule.specs.Slots.IsOverAt.{pair_done as pair_at, link_needed as link_at}
 use Rattle.steady_schedule.specs.Slots.IsOverAs.{pair_done as pair_as, link_needed as link_as}
 use Rattle.steady_schedule.proofs.Matchings.{has_low, partner_low}
@@ -43,10 +45,13 @@ module _ (totals : List ℕ) where
   abbrev start : ℕ → ℕ → ℕ
   start u v = sum_below (pair_index u v) (slice_index totals)
 
-  pub same_slot : (u v i w x j : ℕ) → v < MAX_MODULES → x < MAX_MODULES → i < count_at totals u v → j < count_at totals w x → start u v + i ≡ start w x + j → (u ≡ w) × (v ≡ x)
-  same_slot u v i w x j v_in x_in i_in j_in same = same_place u v w x v_in x_in (one_place (pair_index u v) (pair_index w x) i j (slice_index totals) i_in j_in same)
+  pub same_slot : (u v i w x j : ℕ) → v < MAX_MODULES → x < MAX_MODULES → i < count_at totals u v → j < count_at totals w x → start u v + i ≡ start w x + j
+      → (u ≡ w) × (v ≡ x)
+  same_slot u v i w x j v_in x_in i_in j_in same =
+      same_place u v w x v_in x_in (one_place (pair_index u v) (pair_index w x) i j (slice_index totals) i_in j_in same)
 
-  pub slot_inside : (u v i : ℕ) → u < MAX_MODULES → v < MAX_MODULES → i ≤ count_at totals u v → start u v + i ≤ sum_below (MAX_MODULES * MAX_MODULES) (slice_index totals)
+  pub slot_inside : (u v i : ℕ) → u < MAX_MODULES → v < MAX_MODULES → i ≤ count_at totals u v → start u v + i ≤ sum_below (MAX_MODULES * MAX_MODULES)
+      (slice_index totals)
   slot_inside u v i u_in v_in le =
       let low : pair_index u v < MAX_MODULES * MAX_MODULES = omega arith in
       omega (arith, le, prefix_less (pair_index u v) (MAX_MODULES * MAX_MODULES) (slice_index totals) low)
@@ -64,14 +69,16 @@ none_numbered totals slots sized = record {
 
 -- ---- the numbers of one step
 
-pub begun : (totals remaining slots : List ℕ) (zeros : List (Option ℕ)) (first k : ℕ) → AreNumbered totals remaining slots first → AreNumberedFrom zeros first 0 totals remaining slots (first + k)
+pub begun : (totals remaining slots : List ℕ) (zeros : List (Option ℕ)) (first k : ℕ) → AreNumbered totals remaining slots first
+    → AreNumberedFrom zeros first 0 totals remaining slots (first + k)
 begun totals remaining slots zeros first k a = record {
   numbered = record { sized = a.sized; within = a.within; below = λ u v i w. omega (arith, a.below u v i w); falling = a.falling; apart = a.apart };
   recent = λ u v i w le. absurd (omega (arith, le, a.below u v i w));
   each = λ u v d u_in. absurd (omega arith);
 }
 
-pub not_joined : (totals remaining slots : List ℕ) (zeros : List (Option ℕ)) (first n next : ℕ) → partner zeros n ≡ None → AreNumberedFrom zeros first n totals remaining slots next → AreNumberedFrom zeros first (n + 1) totals remaining slots next
+pub not_joined : (totals remaining slots : List ℕ) (zeros : List (Option ℕ)) (first n next : ℕ) → partner zeros n ≡ None → AreNumberedFrom zeros first n totals
+    remaining slots next → AreNumberedFrom zeros first (n + 1) totals remaining slots next
 not_joined totals remaining slots zeros first n next none a = record {
   numbered = a.numbered;
   recent = λ u v i w le. let r = a.recent u v i w le in (omega (arith, r.0), r.1);
@@ -82,14 +89,18 @@ not_joined totals remaining slots zeros first n next none a = record {
 }
 
 -- joined pairs of the first n modules are all, where no other has a partner
-pub all_numbered : (totals remaining slots : List ℕ) (zeros : List (Option ℕ)) (first n next : ℕ) → n ≤ MAX_MODULES → AreBelow zeros n → AreNumberedFrom zeros first n totals remaining slots next → AreNumberedFrom zeros first MAX_MODULES totals remaining slots next
+pub all_numbered : (totals remaining slots : List ℕ) (zeros : List (Option ℕ)) (first n next : ℕ) → n ≤ MAX_MODULES → AreBelow zeros n
+    → AreNumberedFrom zeros first n totals remaining slots next → AreNumberedFrom zeros first MAX_MODULES totals remaining slots next
 all_numbered totals remaining slots zeros first n next within low a = record {
   numbered = a.numbered;
   recent = λ u v i w le. let r = a.recent u v i w le in (omega (arith, r.0, within), r.1);
   each = λ u v d u_in joined. a.each u v d (low u v joined) joined;
 }
 
-module _ (totals remaining slots after : List ℕ) (zero three : List (Option ℕ)) (first k n y : ℕ) (m : AreMatched zero three) (joined : partner zero n ≡ Some y) (so_far : AreNumberedFrom zero first n totals remaining slots (first + k)) (places : length remaining ≡ MAX_MODULES * MAX_MODULES) (k_there : k ≤ count_at remaining n y) (w : AreSlotsFilled (sum_below (pair_index n y) (slice_index totals) + (count_at remaining n y - k)) first k slots after) where
+module _ (totals remaining slots after : List ℕ) (zero three : List (Option ℕ)) (first k n y : ℕ) (m : AreMatched zero three) (joined : partner zero n ≡ Some y)
+    (so_far : AreNumberedFrom zero first n totals remaining slots (first + k)) (places : length remaining ≡ MAX_MODULES * MAX_MODULES)
+    (k_there : k ≤ count_at remaining n y) (w : AreSlotsFilled (sum_below (pair_index n y) (slice_index totals) + (count_at remaining n y - k)) first k slots
+    after) where
   n_in : n < MAX_MODULES
   n_in = has_low zero n y m.sized joined
 
@@ -129,7 +140,8 @@ module _ (totals remaining slots after : List ℕ) (zero three : List (Option �
         | inr from ↦ elim (cases_lt p (at + k)) [
           | inr behind ↦ w.behind p behind
           | inl inside ↦
-              let same = same_slot totals n y (p - start totals n y) u v i y_in is.three_in (omega (arith, inside, from, within_old, k_there)) is.there (omega (arith, from)) in
+              let same = same_slot totals n y (p - start totals n y) u v i y_in is.three_in (omega (arith, inside, from, within_old, k_there)) is.there
+              (omega (arith, from)) in
               absurd (other same.0 same.1)
         ]
       ]
@@ -138,7 +150,14 @@ module _ (totals remaining slots after : List ℕ) (zero three : List (Option �
   new_or_old u v i = same_or_other n y u v (λ a b. IsWritten totals less a b i → IsNew a b i ⊎ IsOld a b i)
       (λ is. here i (omega (arith, is.done, count_here remaining n y (c - k) places n_in y_in)) is.there)
       (λ other is.
-      let was : IsWritten totals remaining u v i = record { zero_in = is.zero_in; three_in = is.three_in; done = omega (arith, is.done, count_other remaining n y (c - k) places n_in y_in u v is.three_in other); there = is.there } in
+      let was : IsWritten totals remaining u v i =
+      record {
+        zero_in = is.zero_in;
+        three_in = is.three_in;
+        done =
+            omega (arith, is.done, count_other remaining n y (c - k) places n_in y_in u v is.three_in other);
+        there = is.there;
+      } in
       inr (was, elsewhere u v i other was))
 
   -- numbers of the pair that were written before are less
@@ -152,7 +171,9 @@ module _ (totals remaining slots after : List ℕ) (zero three : List (Option �
         | inl new ↦ elim (new_or_old u v j later) [
           | inl new_too ↦ omega (arith, new.3, new_too.3, lt)
           | inr old ↦
-              let less_old : slot totals slots u v j < first = subst (λ (a : ℕ). slot totals slots a v j < first) (sym new.0) (subst (λ (b : ℕ). slot totals slots n b j < first) (sym new.1) (old_less j (subst (λ (b : ℕ). IsWritten totals remaining n b j) new.1 (subst (λ (a : ℕ). IsWritten totals remaining a v j) new.0 old.0)))) in
+              let less_old : slot totals slots u v j < first = subst (λ (a : ℕ). slot totals slots a v j < first) (sym new.0)
+              (subst (λ (b : ℕ). slot totals slots n b j < first) (sym new.1)
+              (old_less j (subst (λ (b : ℕ). IsWritten totals remaining n b j) new.1 (subst (λ (a : ℕ). IsWritten totals remaining a v j) new.0 old.0)))) in
               omega (arith, less_old, old.1, new.2, new.3)
         ]
         | inr old ↦ elim (new_or_old u v j later) [
@@ -173,7 +194,8 @@ module _ (totals remaining slots after : List ℕ) (zero three : List (Option �
             omega (arith, r.0, same_Some a n (sym own ∙ (m.each_other n y).0 joined)),
       )
 
-  are_apart : (u v i a b j : ℕ) → IsWritten totals less u v i → IsWritten totals less a b j → slot totals after u v i ≡ slot totals after a b j → AreOneOrApart u v a b
+  are_apart : (u v i a b j : ℕ) → IsWritten totals less u v i → IsWritten totals less a b j → slot totals after u v i ≡ slot totals after a b j
+      → AreOneOrApart u v a b
   are_apart u v i a b j one other same = elim (new_or_old u v i one) [
     | inl new ↦ elim (new_or_old a b j other) [
       | inl new_too ↦ inl (new.0 ∙ sym new_too.0, new.1 ∙ sym new_too.1)
@@ -235,7 +257,13 @@ module _ (totals remaining slots after : List ℕ) (zero three : List (Option �
           let in_c : i < c = omega (arith, from, to, k_there) in
           let done : c - k ≤ i = omega (arith, from, to, k_there) in (
             i,
-            record { zero_in = n_in; three_in = y_in; done = omega (arith, done, count_here remaining n y (c - k) places n_in y_in); there = omega (arith, in_c, within_old) },
+            record {
+              zero_in = n_in;
+              three_in = y_in;
+              done = omega (arith, done, count_here remaining n y (c - k) places n_in y_in);
+              there =
+                  omega (arith, in_c, within_old);
+            },
             omega (arith, from, to, k_there, w.here (start totals n y + i) (omega (arith, done)) (omega (arith, in_c, k_there))),
           )
 
@@ -257,7 +285,9 @@ module _ (totals remaining slots after : List ℕ) (zero three : List (Option �
 pub keep_all : (totals : List ℕ) (first : ℕ) (remaining slots : List ℕ) → KeepNumbers totals first remaining slots remaining slots
 keep_all totals first remaining slots = record { old = λ u v d lt has. has; only = λ u v d lt has. has }
 
-pub keep_both : (totals : List ℕ) (first : ℕ) (remaining slots remaining_now slots_now remaining_then slots_then : List ℕ) → KeepNumbers totals first remaining slots remaining_now slots_now → KeepNumbers totals first remaining_now slots_now remaining_then slots_then → KeepNumbers totals first remaining slots remaining_then slots_then
+pub keep_both : (totals : List ℕ) (first : ℕ) (remaining slots remaining_now slots_now remaining_then slots_then : List ℕ) → KeepNumbers totals first remaining
+    slots remaining_now slots_now → KeepNumbers totals first remaining_now slots_now remaining_then slots_then → KeepNumbers totals first remaining slots
+    remaining_then slots_then
 keep_both totals first remaining slots remaining_now slots_now remaining_then slots_then one other = record {
   old = λ u v d lt has. other.old u v d lt (one.old u v d lt has);
   only = λ u v d lt has. one.only u v d lt (other.only u v d lt has);
@@ -265,9 +295,11 @@ keep_both totals first remaining slots remaining_now slots_now remaining_then sl
 
 -- ---- the numbers as they are read
 
-pub pair_after : (batch : List Transfer) (t : ℕ) (x : Transfer) (u v : ℕ) → slice_get batch t ≡ Some x → pair_count (drop t batch) u v ≡ bit (hits u v x) + pair_count (drop (t + 1) batch) u v
+pub pair_after : (batch : List Transfer) (t : ℕ) (x : Transfer) (u v : ℕ) → slice_get batch t ≡ Some x → pair_count (drop t batch) u v
+    ≡ bit (hits u v x) + pair_count (drop (t + 1) batch) u v
 pair_after batch t x u v here =
-    let split : drop t batch ≡ x ∷ drop (t + 1) batch = drop_more batch t x (slice_get_within batch t x here) ∙ ap (λ (y : Transfer). y ∷ drop (t + 1) batch) (get_or_from_slice_get batch t x x here) in
+    let split : drop t batch ≡ x ∷ drop (t + 1) batch = drop_more batch t x (slice_get_within batch t x here) ∙ ap (λ (y : Transfer). y ∷ drop (t + 1) batch)
+    (get_or_from_slice_get batch t x x here) in
     ap (λ (xs : List Transfer). pair_count xs u v) split ∙ sum_by-cons (λ y. bit (hits u v y)) x (drop (t + 1) batch)
 
 pair_drop : (batch : List Transfer) (n u v : ℕ) → pair_count (drop n batch) u v ≤ pair_count batch u v
@@ -281,18 +313,31 @@ pair_later batch (suc n) zero u v le = absurd (omega arith)
 pair_later [] (suc n) (suc m) u v le = omega arith
 pair_later (x ∷ xs) (suc n) (suc m) u v le = pair_later xs n m u v (omega arith)
 
-own_behind : (batch : List Transfer) (t : ℕ) (x : Transfer) → slice_get batch t ≡ Some x → pair_count (drop (t + 1) batch) x.initiator x.responder < pair_count batch x.initiator x.responder
-own_behind batch t x here = omega (arith, pair_after batch t x x.initiator x.responder here, own_hit x x.initiator x.responder refl refl, pair_drop batch t x.initiator x.responder)
+own_behind : (batch : List Transfer) (t : ℕ) (x : Transfer) → slice_get batch t ≡ Some x → pair_count (drop (t + 1) batch) x.initiator x.responder < pair_count
+    batch x.initiator x.responder
+own_behind batch t x here = omega (
+  arith,
+  pair_after batch t x x.initiator x.responder here,
+  own_hit x x.initiator x.responder refl refl,
+  pair_drop batch t x.initiator x.responder,
+)
 
-later_fewer : (batch : List Transfer) (t u : ℕ) (y : Transfer) → t < u → slice_get batch u ≡ Some y → pair_count (drop (u + 1) batch) y.initiator y.responder < pair_count (drop (t + 1) batch) y.initiator y.responder
-later_fewer batch t u y less there = omega (arith, pair_after batch u y y.initiator y.responder there, own_hit y y.initiator y.responder refl refl, pair_later batch (t + 1) u y.initiator y.responder (omega arith))
+later_fewer : (batch : List Transfer) (t u : ℕ) (y : Transfer) → t < u → slice_get batch u ≡ Some y → pair_count (drop (u + 1) batch) y.initiator y.responder <
+    pair_count (drop (t + 1) batch) y.initiator y.responder
+later_fewer batch t u y less there = omega (
+  arith,
+  pair_after batch u y y.initiator y.responder there,
+  own_hit y y.initiator y.responder refl refl,
+  pair_later batch (t + 1) u y.initiator y.responder (omega arith),
+)
 
 other_modules : (e : End) (m : ℕ) (x y : Transfer) → (x.initiator ≢ y.initiator) × (x.responder ≢ y.responder) → module_at e x ≡ m → module_at e y ≡ m → ⊥
 other_modules Zero m x y apart one other = apart.0 (one ∙ sym other)
 other_modules Three m x y apart one other = apart.1 (one ∙ sym other)
 
 -- the transfer of a pair after which so many of its transfers stand
-find_after : (batch : List Transfer) (u v i : ℕ) → i < pair_count batch u v → (t : ℕ) × (x : Transfer) × (slice_get batch t ≡ Some x) × (hits u v x ≡ true) × (pair_count (drop (t + 1) batch) u v ≡ i)
+find_after : (batch : List Transfer) (u v i : ℕ) → i < pair_count batch u v → (t : ℕ) × (x : Transfer) × (slice_get batch t ≡ Some x) × (hits u v x ≡ true)
+    × (pair_count (drop (t + 1) batch) u v ≡ i)
 find_after [] u v i lt = absurd (omega arith)
 find_after (x ∷ xs) u v i lt =
     let split = sum_by-cons (λ y. bit (hits u v y)) x xs in
@@ -307,7 +352,10 @@ find_after (x ∷ xs) u v i lt =
       ]
     ]
 
-module _ (batch : List Transfer) (totals remaining slots numbers : List ℕ) (settings : ℕ) (counted : ArePairCounts batch totals) (done : (u v : ℕ) → u < MAX_MODULES → v < MAX_MODULES → count_at remaining u v ≡ 0) (n : AreNumbered totals remaining slots settings) (read : AreReadTo batch totals slots numbers (length batch)) (low : (t : ℕ) (x : Transfer) → slice_get batch t ≡ Some x → (x.initiator < MAX_MODULES) × (x.responder < MAX_MODULES)) where
+module _ (batch : List Transfer) (totals remaining slots numbers : List ℕ) (settings : ℕ) (counted : ArePairCounts batch totals)
+    (done : (u v : ℕ) → u < MAX_MODULES → v < MAX_MODULES → count_at remaining u v ≡ 0) (n : AreNumbered totals remaining slots settings)
+    (read : AreReadTo batch totals slots numbers (length batch)) (low : (t : ℕ) (x : Transfer) → slice_get batch t ≡ Some x → (x.initiator < MAX_MODULES)
+    × (x.responder < MAX_MODULES)) where
   -- how many of a pair stand after transfer t
   abbrev behind : ℕ → ℕ → ℕ → ℕ
   behind t u v = pair_count (drop (t + 1) batch) u v
@@ -325,14 +373,24 @@ module _ (batch : List Transfer) (totals remaining slots numbers : List ℕ) (se
       }
 
   -- two transfers of one pair have different numbers
-  same_pair : (t u : ℕ) (x y : Transfer) → t < u → slice_get batch t ≡ Some x → slice_get batch u ≡ Some y → (x.initiator ≡ y.initiator) × (x.responder ≡ y.responder) → slot totals slots x.initiator x.responder (behind t x.initiator x.responder) ≡ slot totals slots y.initiator y.responder (behind u y.initiator y.responder) → ⊥
+  same_pair : (t u : ℕ) (x y : Transfer) → t < u → slice_get batch t ≡ Some x → slice_get batch u ≡ Some y → (x.initiator ≡ y.initiator)
+      × (x.responder ≡ y.responder) → slot totals slots x.initiator x.responder (behind t x.initiator x.responder) ≡ slot totals slots y.initiator y.responder
+      (behind u y.initiator y.responder) → ⊥
   same_pair t u x y less here there one same =
-      let moved : slot totals slots y.initiator y.responder (behind u y.initiator y.responder) ≡ slot totals slots x.initiator x.responder (behind u x.initiator x.responder) = rw (one.0, one.1) refl in
+      let moved : slot totals slots y.initiator y.responder (behind u y.initiator y.responder) ≡ slot totals slots x.initiator x.responder
+      (behind u x.initiator x.responder) = rw (one.0, one.1) refl in
       let fewer : behind u x.initiator x.responder < behind t x.initiator x.responder = rw (one.0, one.1) (later_fewer batch t u y less there) in
       let at_u : IsWritten totals remaining x.initiator x.responder (behind u x.initiator x.responder) = rw (one.0, one.1) (own_written u y there) in
-      omega (arith, same, moved, n.falling x.initiator x.responder (behind u x.initiator x.responder) (behind t x.initiator x.responder) at_u fewer (own_written t x here).there)
+      omega (
+        arith,
+        same,
+        moved,
+        n.falling x.initiator x.responder (behind u x.initiator x.responder) (behind t x.initiator x.responder) at_u fewer
+            (own_written t x here).there,
+      )
 
-  apart_transfers : (t u : ℕ) (x y : Transfer) → slice_get batch t ≡ Some x → slice_get batch u ≡ Some y → (x.initiator ≢ y.initiator) × (x.responder ≢ y.responder) → AreApart batch t u
+  apart_transfers : (t u : ℕ) (x y : Transfer) → slice_get batch t ≡ Some x → slice_get batch u ≡ Some y → (x.initiator ≢ y.initiator)
+      × (x.responder ≢ y.responder) → AreApart batch t u
   apart_transfers t u x y here there apart = record {
     none_common = λ link one other. other_modules link.end link.«module» x y apart (at_used batch t link x here one) (at_used batch u link y there other);
   }
@@ -349,7 +407,8 @@ module _ (batch : List Transfer) (totals remaining slots numbers : List ℕ) (se
         let x_at = read.at t x.0 (omega arith) x.1 in
         let y_at = read.at u y.0 u_in y.1 in
         apart_transfers t u x.0 y.0 x.1 y.1
-        (elim (n.apart x.0.initiator x.0.responder (behind t x.0.initiator x.0.responder) y.0.initiator y.0.responder (behind u y.0.initiator y.0.responder) (own_written t x.0 x.1) (own_written u y.0 y.1) (sym x_at ∙ (same ∙ y_at))) [
+        (elim (n.apart x.0.initiator x.0.responder (behind t x.0.initiator x.0.responder) y.0.initiator y.0.responder (behind u y.0.initiator y.0.responder)
+        (own_written t x.0 x.1) (own_written u y.0 y.1) (sym x_at ∙ (same ∙ y_at))) [
           | inr apart ↦ apart
           | inl one ↦ absurd (same_pair t u x.0 y.0 less x.1 y.1 one (sym x_at ∙ (same ∙ y_at)))
         ]);
@@ -360,7 +419,8 @@ module _ (batch : List Transfer) (totals remaining slots numbers : List ℕ) (se
   joins_from d u v j =
       let is = own_written j.t j.x j.here in
       let at = read.at j.t j.x (slice_get_within batch j.t j.x j.here) j.here in
-      subst (λ (a : ℕ). StandsIn totals remaining slots d a v) j.zero_is (subst (λ (b : ℕ). StandsIn totals remaining slots d j.x.initiator b) j.three_is (behind j.t j.x.initiator j.x.responder, is, sym at ∙ j.number))
+      subst (λ (a : ℕ). StandsIn totals remaining slots d a v) j.zero_is (subst (λ (b : ℕ). StandsIn totals remaining slots d j.x.initiator b) j.three_is
+      (behind j.t j.x.initiator j.x.responder, is, sym at ∙ j.number))
 
   pub joins_to_number : (d u v : ℕ) → StandsIn totals remaining slots d u v → JoinsAs batch numbers d u v
   joins_to_number d u v has =
@@ -370,7 +430,8 @@ module _ (batch : List Transfer) (totals remaining slots numbers : List ℕ) (se
       let a = eqb-true f.1.initiator u both.0 in
       let b = eqb-true f.1.responder v both.1 in
       let at = read.at f.0 f.1 (slice_get_within batch f.0 f.1 f.2) f.2 in
-      let moved : slot totals slots f.1.initiator f.1.responder (behind f.0 f.1.initiator f.1.responder) ≡ slot totals slots u v (behind f.0 u v) = rw (a, b) refl in
+      let moved : slot totals slots f.1.initiator f.1.responder (behind f.0 f.1.initiator f.1.responder) ≡ slot totals slots u v (behind f.0 u v) =
+      rw (a, b) refl in
       record { t = f.0; x = f.1; here = f.2; zero_is = a; three_is = b; number = at ∙ (moved ∙ (ap (slot totals slots u v) f.4 ∙ has.2)) }
 
   -- ---- what is over, as they are read
@@ -384,8 +445,32 @@ module _ (batch : List Transfer) (totals remaining slots numbers : List ℕ) (se
       record { t = j.t; used = (j.x, j.here, inr (ap (made Three) (sym j.three_is))); number = j.number }
 
   uses_to : (d : ℕ) (end : End) (x : ℕ) → UsesAs batch numbers d (made end x) → LinkHas totals remaining slots d end x
-  uses_to d Zero x u = (u.used.0.responder, joins_from d x u.used.0.responder (record { t = u.t; x = u.used.0; here = u.used.1; zero_is = at_used batch u.t (made Zero x) u.used.0 u.used.1 u.used; three_is = refl; number = u.number }))
-  uses_to d Three x u = (u.used.0.initiator, joins_from d u.used.0.initiator x (record { t = u.t; x = u.used.0; here = u.used.1; zero_is = refl; three_is = at_used batch u.t (made Three x) u.used.0 u.used.1 u.used; number = u.number }))
+  uses_to d Zero x u = (
+    u.used.0.responder,
+    joins_from d x u.used.0.responder
+        (record {
+          t = u.t;
+          x = u.used.0;
+          here = u.used.1;
+          zero_is = at_used batch u.t (made Zero x) u.used.0 u.used.1 u.used;
+          three_is = refl;
+          number =
+              u.number;
+        }),
+  )
+  uses_to d Three x u = (
+    u.used.0.initiator,
+    joins_from d u.used.0.initiator x
+        (record {
+          t = u.t;
+          x = u.used.0;
+          here = u.used.1;
+          zero_is = refl;
+          three_is = at_used batch u.t (made Three x) u.used.0 u.used.1 u.used;
+          number =
+              u.number;
+        }),
+  )
 
   over_read : (d : ℕ) → IsOverAt totals remaining slots settings settings d → IsOverAs batch settings numbers d
   over_read d (pair_at u v has none gone) = pair_as u v (joins_to_number d u v has) (λ e later j. none e later (joins_from e u v j))
@@ -393,52 +478,70 @@ module _ (batch : List Transfer) (totals remaining slots numbers : List ℕ) (se
 
   pub needs_read : AreAtNeed totals remaining slots settings settings → HaveNeeds batch settings numbers
   needs_read needs d lt = elim (needs d (omega arith) lt) [
-    | inl same ↦ inl (λ u v. (λ j. joins_to_number (d + 1) u v ((same.1 u v).0 (joins_from d u v j)), λ j. joins_to_number d u v ((same.1 u v).1 (joins_from (d + 1) u v j))))
+    | inl same ↦ inl (λ u v. (
+      λ j. joins_to_number (d + 1) u v ((same.1 u v).0 (joins_from d u v j)),
+      λ j. joins_to_number d u v ((same.1 u v).1 (joins_from (d + 1) u v j)),
+    ))
     | inr is ↦ inr (over_read d is)
   ]
 
 -- ---- where slots begin
 
-pub starts_more : (totals starts : List ℕ) (n room : ℕ) → n < length starts → room ≡ sum_below n (slice_index totals) → ((p : ℕ) → p < n → get_or starts p 0 ≡ sum_below p (slice_index totals)) → (p : ℕ) → p < n + 1 → get_or (set starts n room) p 0 ≡ sum_below p (slice_index totals)
+pub starts_more : (totals starts : List ℕ) (n room : ℕ) → n < length starts → room ≡ sum_below n (slice_index totals)
+    → ((p : ℕ) → p < n → get_or starts p 0 ≡ sum_below p (slice_index totals)) → (p : ℕ) → p < n + 1 → get_or (set starts n room) p 0
+    ≡ sum_below p (slice_index totals)
 starts_more totals starts n room n_in is so_far =
-    below_more (λ p. get_or (set starts n room) p 0 ≡ sum_below p (slice_index totals)) n (λ p lt. get_or-set_other starts n p room 0 (λ e. omega (arith, e, lt)) ∙ so_far p lt) (get_or-set_same starts n room 0 n_in ∙ is)
+    below_more (λ p. get_or (set starts n room) p 0 ≡ sum_below p (slice_index totals)) n
+    (λ p lt. get_or-set_other starts n p room 0 (λ e. omega (arith, e, lt)) ∙ so_far p lt) (get_or-set_same starts n room 0 n_in ∙ is)
 
 -- ---- one pair at a time
 
 pub all_taken : (remaining : List ℕ) → HaveMost remaining 0 → (u v : ℕ) → u < MAX_MODULES → v < MAX_MODULES → count_at remaining u v ≡ 0
 all_taken remaining most u v u_in v_in = omega (arith, most Zero u u_in, at_most_sum MAX_MODULES v (λ w. count_at remaining u w) v_in)
 
-pub counted_less : (batch : List Transfer) (t : ℕ) (x : Transfer) (remaining : List ℕ) (a b : ℕ) → ArePairCounts (drop t batch) remaining → slice_get batch t ≡ Some x → a ≡ x.initiator → b ≡ x.responder → a < MAX_MODULES → b < MAX_MODULES → ArePairCounts (drop (t + 1) batch) (set remaining (pair_index a b) (count_at remaining a b - 1))
+pub counted_less : (batch : List Transfer) (t : ℕ) (x : Transfer) (remaining : List ℕ) (a b : ℕ) → ArePairCounts (drop t batch) remaining → slice_get batch t
+    ≡ Some x → a ≡ x.initiator → b ≡ x.responder → a < MAX_MODULES → b < MAX_MODULES → ArePairCounts (drop (t + 1) batch)
+    (set remaining (pair_index a b) (count_at remaining a b - 1))
 counted_less batch t x remaining a b c here start answer a_in b_in =
     counted_now (drop t batch) (drop (t + 1) batch) x remaining a b (count_at remaining a b - 1) c start answer a_in b_in
-    (omega (arith, pair_after batch t x a b here, own_hit x a b start answer, c.at a b a_in b_in)) (λ u v none. omega (arith, pair_after batch t x u v here, none))
+    (omega (arith, pair_after batch t x a b here, own_hit x a b start answer, c.at a b a_in b_in))
+    (λ u v none. omega (arith, pair_after batch t x u v here, none))
 
 -- the transfer waits
-pub own_waits : (batch : List Transfer) (t : ℕ) (x : Transfer) (remaining : List ℕ) (a b : ℕ) → ArePairCounts (drop t batch) remaining → slice_get batch t ≡ Some x → a ≡ x.initiator → b ≡ x.responder → a < MAX_MODULES → b < MAX_MODULES → count_at remaining a b ≡ 1 + pair_count (drop (t + 1) batch) a b
+pub own_waits : (batch : List Transfer) (t : ℕ) (x : Transfer) (remaining : List ℕ) (a b : ℕ) → ArePairCounts (drop t batch) remaining → slice_get batch t
+    ≡ Some x → a ≡ x.initiator → b ≡ x.responder → a < MAX_MODULES → b < MAX_MODULES → count_at remaining a b ≡ 1 + pair_count (drop (t + 1) batch) a b
 own_waits batch t x remaining a b c here start answer a_in b_in =
     omega (arith, c.at a b a_in b_in, pair_after batch t x a b here, own_hit x a b start answer)
 
-pub few_left : (batch : List Transfer) (t : ℕ) (totals remaining : List ℕ) (a b : ℕ) → ArePairCounts batch totals → ArePairCounts (drop t batch) remaining → a < MAX_MODULES → b < MAX_MODULES → count_at remaining a b ≤ count_at totals a b
+pub few_left : (batch : List Transfer) (t : ℕ) (totals remaining : List ℕ) (a b : ℕ) → ArePairCounts batch totals → ArePairCounts (drop t batch) remaining
+    → a < MAX_MODULES → b < MAX_MODULES → count_at remaining a b ≤ count_at totals a b
 few_left batch t totals remaining a b all c a_in b_in = omega (arith, all.at a b a_in b_in, c.at a b a_in b_in, pair_drop batch t a b)
 
-pub read_more : (batch : List Transfer) (totals slots numbers : List ℕ) (n number : ℕ) (x : Transfer) → AreReadTo batch totals slots numbers n → slice_get batch n ≡ Some x → number ≡ slot totals slots x.initiator x.responder (pair_count (drop (n + 1) batch) x.initiator x.responder) → AreReadTo batch totals slots (numbers ++ number ∷ []) (n + 1)
+pub read_more : (batch : List Transfer) (totals slots numbers : List ℕ) (n number : ℕ) (x : Transfer) → AreReadTo batch totals slots numbers n
+    → slice_get batch n ≡ Some x → number ≡ slot totals slots x.initiator x.responder (pair_count (drop (n + 1) batch) x.initiator x.responder)
+    → AreReadTo batch totals slots (numbers ++ number ∷ []) (n + 1)
 read_more batch totals slots numbers n number x r here is = record {
   sized = omega (arith, length_push numbers number, r.sized);
   at = λ t y lt there. elim (cases_eq t n) [
     | inl e ↦
         let same : x ≡ y = same_Some x y (sym here ∙ subst (λ (k : ℕ). slice_get batch k ≡ Some y) e there) in
         let value = get_or_push numbers number 0 t (omega (arith, e, r.sized)) in
-        value ∙ (is ∙ subst (λ (z : Transfer). slot totals slots x.initiator x.responder (pair_count (drop (n + 1) batch) x.initiator x.responder) ≡ slot totals slots z.initiator z.responder (pair_count (drop (t + 1) batch) z.initiator z.responder)) same (ap (λ (k : ℕ). slot totals slots x.initiator x.responder (pair_count (drop (k + 1) batch) x.initiator x.responder)) (sym e)))
+        value ∙ (is ∙ subst (λ (z : Transfer). slot totals slots x.initiator x.responder (pair_count (drop (n + 1) batch) x.initiator x.responder)
+        ≡ slot totals slots z.initiator z.responder (pair_count (drop (t + 1) batch) z.initiator z.responder)) same
+        (ap (λ (k : ℕ). slot totals slots x.initiator x.responder (pair_count (drop (k + 1) batch) x.initiator x.responder)) (sym e)))
     | inr ne ↦
         let before : t < n = omega arith in
         get_or_append_left numbers (number ∷ []) 0 t (omega (arith, before, r.sized)) ∙ r.at t y before there
   ];
 }
 
-pub own_number : (batch : List Transfer) (totals slots : List ℕ) (t : ℕ) (x : Transfer) (remaining : List ℕ) (a b : ℕ) → ArePairCounts (drop t batch) remaining → slice_get batch t ≡ Some x → a ≡ x.initiator → b ≡ x.responder → a < MAX_MODULES → b < MAX_MODULES → slot totals slots a b (count_at remaining a b - 1) ≡ slot totals slots x.initiator x.responder (pair_count (drop (t + 1) batch) x.initiator x.responder)
+pub own_number : (batch : List Transfer) (totals slots : List ℕ) (t : ℕ) (x : Transfer) (remaining : List ℕ) (a b : ℕ) → ArePairCounts (drop t batch) remaining
+    → slice_get batch t ≡ Some x → a ≡ x.initiator → b ≡ x.responder → a < MAX_MODULES → b < MAX_MODULES → slot totals slots a b (count_at remaining a b - 1)
+    ≡ slot totals slots x.initiator x.responder (pair_count (drop (t + 1) batch) x.initiator x.responder)
 own_number batch totals slots t x remaining a b c here start answer a_in b_in =
     let i : count_at remaining a b - 1 ≡ pair_count (drop (t + 1) batch) a b = omega (arith, own_waits batch t x remaining a b c here start answer a_in b_in) in
-    ap (λ (k : ℕ). slot totals slots a b k) i ∙ (ap (λ (u : ℕ). slot totals slots u b (pair_count (drop (t + 1) batch) u b)) start ∙ ap (λ (v : ℕ). slot totals slots x.initiator v (pair_count (drop (t + 1) batch) x.initiator v)) answer)
+    ap (λ (k : ℕ). slot totals slots a b k) i ∙ (ap (λ (u : ℕ). slot totals slots u b (pair_count (drop (t + 1) batch) u b)) start
+    ∙ ap (λ (v : ℕ). slot totals slots x.initiator v (pair_count (drop (t + 1) batch) x.initiator v)) answer)
 
 pub counts_few : (batch : List Transfer) (counts : List ℕ) (most : ℕ) → ArePairCounts batch counts → length batch ≤ most → All (λ count. count ≤ most) counts
 counts_few batch counts most c few = All-from_get_or (λ count. count ≤ most) counts 0 (λ k lt.

@@ -12,7 +12,8 @@ use Rattle.link_graph.specs.Schedules.{times}
 use Rattle.link_graph.proofs.Once.{stands_from_count}
 use Rattle.steady_schedule.specs.Changes.{are_partners}
 
-pub member_any : (batch : List Transfer) (setting : List ℕ) (p : Transfer → Bool) (t : ℕ) (x : Transfer) → Contains setting t → slice_get batch t ≡ Some x → p x ≡ true → list_any p (members batch setting) ≡ true
+pub member_any : (batch : List Transfer) (setting : List ℕ) (p : Transfer → Bool) (t : ℕ) (x : Transfer) → Contains setting t → slice_get batch t ≡ Some x → p x
+    ≡ true → list_any p (members batch setting) ≡ true
 member_any batch [] p t x stands here passes = absurd (omega (arith, stands.1))
 member_any batch (u ∷ us) p t x stands here passes = elim (at_cons u t us stands) [
   | inl e ↦ rw (ap (λ (n : ℕ). slice_get batch n) e ∙ here) (or_left (p x) (list_any p (members batch us)) passes)
@@ -41,9 +42,11 @@ any_member batch (u ∷ us) p any = elim (slice_get_cases batch u).1 [
 ]
 
 -- the pair of a transfer that stands there
-pub pair_stands : (batch : List Transfer) (setting : List ℕ) (t : ℕ) (x : Transfer) → Contains setting t → slice_get batch t ≡ Some x → are_partners (members batch setting) x.initiator x.responder ≡ true
+pub pair_stands : (batch : List Transfer) (setting : List ℕ) (t : ℕ) (x : Transfer) → Contains setting t → slice_get batch t ≡ Some x
+    → are_partners (members batch setting) x.initiator x.responder ≡ true
 pair_stands batch setting t x stands here =
-    member_any batch setting (λ y. y.initiator == x.initiator && y.responder == x.responder) t x stands here (and_from (x.initiator == x.initiator) (x.responder == x.responder) (eq-eqb x.initiator x.initiator refl) (eq-eqb x.responder x.responder refl))
+    member_any batch setting (λ y. y.initiator == x.initiator && y.responder == x.responder) t x stands here
+    (and_from (x.initiator == x.initiator) (x.responder == x.responder) (eq-eqb x.initiator x.initiator refl) (eq-eqb x.responder x.responder refl))
 
 pub some_stands : (t : ℕ) (settings : List (List ℕ)) → 0 < times t settings → (k : ℕ) × (k < length settings) × Contains (get_or settings k []) t
 some_stands t [] some = absurd (omega arith)

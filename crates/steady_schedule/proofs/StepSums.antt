@@ -30,7 +30,12 @@ module _ {J : Type 0} (s : J → ℕ) (a : J → ℕ → Bool) where
   none_at m F [] none = refl
   none_at m F (k ∷ ks) none = elim (cases_Bool (a k m)) [
     | inl t ↦ absurd (omega (arith, none, sum_by-cons (λ j. only (a j m) 1) k ks, ap (λ (b : Bool). only b 1) t))
-    | inr f ↦ omega (arith, sum_by-cons (λ j. only (a j m) (F j)) k ks, ap (λ (b : Bool). only b (F k)) f, none_at m F ks (omega (arith, none, sum_by-cons (λ j. only (a j m) 1) k ks)))
+    | inr f ↦ omega (
+      arith,
+      sum_by-cons (λ j. only (a j m) (F j)) k ks,
+      ap (λ (b : Bool). only b (F k)) f,
+      none_at m F ks (omega (arith, none, sum_by-cons (λ j. only (a j m) 1) k ks)),
+    )
   ]
 
   -- a step that has its place alone fills it
@@ -39,7 +44,12 @@ module _ {J : Type 0} (s : J → ℕ) (a : J → ℕ → Bool) where
   one_at m G (k ∷ ks) one = elim (cases_Bool (a k m)) [
     | inl t ↦
         let rest : degree_of ks m ≡ 0 = omega (arith, one, sum_by-cons (λ j. only (a j m) 1) k ks, ap (λ (b : Bool). only b 1) t) in
-        let whole : total_of (k ∷ ks) m ≡ s k = omega (arith, sum_by-cons (λ j. only (a j m) (s j)) k ks, ap (λ (b : Bool). only b (s k)) t, none_at m s ks rest) in
+        let whole : total_of (k ∷ ks) m ≡ s k = omega (
+          arith,
+          sum_by-cons (λ j. only (a j m) (s j)) k ks,
+          ap (λ (b : Bool). only b (s k)) t,
+          none_at m s ks rest,
+        ) in
         rw whole (omega (arith, sum_by-cons (λ j. only (a j m) (G (s j))) k ks, ap (λ (b : Bool). only b (G (s k))) t, none_at m (λ j. G (s j)) ks rest))
     | inr f ↦
         let rest : degree_of ks m ≡ 1 = omega (arith, one, sum_by-cons (λ j. only (a j m) 1) k ks, ap (λ (b : Bool). only b 1) f) in

@@ -24,17 +24,25 @@ use Rattle.link_graph.specs.declared.link.End.{End}
 module _ (counts zn zu tn tu : List ℕ) (t : AreSummaries counts zn zu tn tu) where
   module _ (zero three : List (Option ℕ)) (m : AreMatched zero three) where
     pub near_counts : (x y : ℕ) → AreNear zn zero → partner zero x ≡ Some y → 0 < count_at counts x y
-    near_counts x y near joined = ltb-true 0 (count_at counts x y) (sym (t.near_zero x y (has_low zero x y m.sized joined) (partner_low zero three x y m joined)) ∙ near x y joined)
+    near_counts x y near joined =
+        ltb-true 0 (count_at counts x y) (sym (t.near_zero x y (has_low zero x y m.sized joined) (partner_low zero three x y m joined)) ∙ near x y joined)
 
     pub near_from_counts : (x y : ℕ) → partner zero x ≡ Some y → 0 < count_at counts x y → has_pair zn x y ≡ true
-    near_from_counts x y joined some = t.near_zero x y (has_low zero x y m.sized joined) (partner_low zero three x y m joined) ∙ lt-ltb 0 (count_at counts x y) some
+    near_from_counts x y joined some = t.near_zero x y (has_low zero x y m.sized joined) (partner_low zero three x y m joined)
+        ∙ lt-ltb 0 (count_at counts x y) some
 
     -- where no transfer waits from some module on, the others have no partners
     module _ (n : ℕ) (none : NoneWait counts n) (near : AreNear zn zero) where
       pub joined_below : AreBelow zero n
       joined_below x y joined = elim (cases_lt x n) [
         | inl lt ↦ lt
-        | inr le ↦ absurd (omega (arith, near_counts x y near joined, at_most_sum MAX_MODULES y (λ v. count_at counts x v) (partner_low zero three x y m joined), none Zero x le (has_low zero x y m.sized joined)))
+        | inr le ↦ absurd
+            (omega (
+              arith,
+              near_counts x y near joined,
+              at_most_sum MAX_MODULES y (λ v. count_at counts x v) (partner_low zero three x y m joined),
+              none Zero x le (has_low zero x y m.sized joined),
+            ))
       ]
 
       pub none_held : (most k x : ℕ) → k ≤ most → n ≤ x → x < MAX_MODULES → CanHoldAt counts zero three most k x
@@ -46,7 +54,8 @@ module _ (counts zn zu tn tu : List ℕ) (t : AreSummaries counts zn zu tn tu) w
 
 -- ---- for how many settings
 
-pub held_less : (counts : List ℕ) (zero three : List (Option ℕ)) (most k l x : ℕ) → l ≤ k → CanHoldAt counts zero three most k x → CanHoldAt counts zero three most l x
+pub held_less : (counts : List ℕ) (zero three : List (Option ℕ)) (most k l x : ℕ) → l ≤ k → CanHoldAt counts zero three most k x
+    → CanHoldAt counts zero three most l x
 held_less counts zero three most k l x le h = record {
   pair = λ y e. omega (arith, le, h.pair y e);
   zero_out = λ e. omega (arith, le, h.zero_out e);
@@ -77,20 +86,24 @@ module _ (zero three : List (Option ℕ)) (m : AreMatched zero three) (k : ℕ) 
   pub zero_joined : (x y : ℕ) → partner zero x ≡ Some y → k ≤ count_at old x y → waiting new Zero x + k ≡ waiting old Zero x
   zero_joined x y joined le =
       let x_in = has_low zero x y m.sized joined in
-      let changed = sum_changed MAX_MODULES y (λ v. count_at old x v) (λ v. count_at new x v) (partner_low zero three x y m joined) (λ v v_in ne. at_others x v x_in v_in (λ e. ne (same_Some v y (sym e ∙ joined)))) in
+      let changed = sum_changed MAX_MODULES y (λ v. count_at old x v) (λ v. count_at new x v) (partner_low zero three x y m joined)
+      (λ v v_in ne. at_others x v x_in v_in (λ e. ne (same_Some v y (sym e ∙ joined)))) in
       omega (arith, changed, at_pair x y joined, le)
 
   pub zero_free : (x : ℕ) → x < MAX_MODULES → partner zero x ≡ None → waiting new Zero x ≡ waiting old Zero x
-  zero_free x x_in none = sum_same MAX_MODULES (λ v. count_at new x v) (λ v. count_at old x v) (λ v v_in. at_others x v x_in v_in (λ e. none-some v (sym none ∙ e)))
+  zero_free x x_in none = sum_same MAX_MODULES (λ v. count_at new x v) (λ v. count_at old x v)
+      (λ v v_in. at_others x v x_in v_in (λ e. none-some v (sym none ∙ e)))
 
   pub three_joined : (x y : ℕ) → partner zero x ≡ Some y → k ≤ count_at old x y → waiting new Three y + k ≡ waiting old Three y
   three_joined x y joined le =
       let y_in = partner_low zero three x y m joined in
-      let changed = sum_changed MAX_MODULES x (λ u. count_at old u y) (λ u. count_at new u y) (has_low zero x y m.sized joined) (λ u u_in ne. at_others u y u_in y_in (λ e. ne (same_Some u x (sym ((m.each_other u y).0 e) ∙ (m.each_other x y).0 joined)))) in
+      let changed = sum_changed MAX_MODULES x (λ u. count_at old u y) (λ u. count_at new u y) (has_low zero x y m.sized joined)
+      (λ u u_in ne. at_others u y u_in y_in (λ e. ne (same_Some u x (sym ((m.each_other u y).0 e) ∙ (m.each_other x y).0 joined)))) in
       omega (arith, changed, at_pair x y joined, le)
 
   pub three_free : (y : ℕ) → y < MAX_MODULES → partner three y ≡ None → waiting new Three y ≡ waiting old Three y
-  three_free y y_in none = sum_same MAX_MODULES (λ u. count_at new u y) (λ u. count_at old u y) (λ u u_in. at_others u y u_in y_in (λ e. none-some u (sym none ∙ (m.each_other u y).0 e)))
+  three_free y y_in none = sum_same MAX_MODULES (λ u. count_at new u y) (λ u. count_at old u y)
+      (λ u u_in. at_others u y u_in y_in (λ e. none-some u (sym none ∙ (m.each_other u y).0 e)))
 
   pub fewer : (x y : ℕ) → x < MAX_MODULES → y < MAX_MODULES → count_at new x y ≤ count_at old x y
   fewer x y x_in y_in = partner_cases (partner zero x) (count_at new x y ≤ count_at old x y)
@@ -102,11 +115,14 @@ module _ (zero three : List (Option ℕ)) (m : AreMatched zero three) (k : ℕ) 
 
   module _ (most : ℕ) (h : HaveMost old most) (can : CanHold old zero three most k) where
     -- how many wait of a link: as many fewer, or as many, which are few
-    pub waits_now : (end : End) (x : ℕ) → x < MAX_MODULES → (waiting new end x + k ≡ waiting old end x) ⊎ ((waiting new end x ≡ waiting old end x) × (waiting old end x + k ≤ most))
-    waits_now Zero x x_in = partner_cases (partner zero x) ((waiting new Zero x + k ≡ waiting old Zero x) ⊎ ((waiting new Zero x ≡ waiting old Zero x) × (waiting old Zero x + k ≤ most)))
+    pub waits_now : (end : End) (x : ℕ) → x < MAX_MODULES → (waiting new end x + k ≡ waiting old end x)
+        ⊎ ((waiting new end x ≡ waiting old end x) × (waiting old end x + k ≤ most))
+    waits_now Zero x x_in = partner_cases (partner zero x) ((waiting new Zero x + k ≡ waiting old Zero x)
+        ⊎ ((waiting new Zero x ≡ waiting old Zero x) × (waiting old Zero x + k ≤ most)))
         (λ none. inr (zero_free x x_in none, (can.each x x_in).zero_out none))
         (λ y joined. inl (zero_joined x y joined ((can.each x x_in).pair y joined)))
-    waits_now Three y y_in = partner_cases (partner three y) ((waiting new Three y + k ≡ waiting old Three y) ⊎ ((waiting new Three y ≡ waiting old Three y) × (waiting old Three y + k ≤ most)))
+    waits_now Three y y_in = partner_cases (partner three y) ((waiting new Three y + k ≡ waiting old Three y)
+        ⊎ ((waiting new Three y ≡ waiting old Three y) × (waiting old Three y + k ≤ most)))
         (λ none. inr (three_free y y_in none, (can.each y y_in).three_out none))
         (λ x back.
         let joined = (m.each_other x y).1 back in
@@ -137,7 +153,8 @@ pub none_taken : (zero : List (Option ℕ)) (k : ℕ) (old : List ℕ) → lengt
 none_taken zero k old places = record { places = places; at = λ u v u_in v_in. rw (le-ltb u 0 (omega arith)) refl }
 
 module _ (zero : List (Option ℕ)) (k n : ℕ) (old now : List ℕ) (so_far : AreTaken zero k n old now) (n_in : n < MAX_MODULES) where
-  still : (u v : ℕ) → u < MAX_MODULES → v < MAX_MODULES → u ≢ n → count_at now u v ≡ cond (nat_lt u (n + 1) && is_partner (partner zero u) v) (count_at old u v - k) (count_at old u v)
+  still : (u v : ℕ) → u < MAX_MODULES → v < MAX_MODULES → u ≢ n → count_at now u v ≡ cond (nat_lt u (n + 1) && is_partner (partner zero u) v)
+      (count_at old u v - k) (count_at old u v)
   still u v u_in v_in ne =
       let same : nat_lt u (n + 1) ≡ nat_lt u n = grind (arith, nat_tests) in
       rw same (so_far.at u v u_in v_in)
@@ -149,7 +166,8 @@ module _ (zero : List (Option ℕ)) (k n : ℕ) (old now : List ℕ) (so_far : A
   free_taken none = record {
     places = so_far.places;
     at = λ u v u_in v_in. elim (cases_eq u n) [
-      | inl e ↦ subst (λ (x : ℕ). count_at now x v ≡ cond (nat_lt x (n + 1) && is_partner (partner zero x) v) (count_at old x v - k) (count_at old x v)) (sym e) (untouched v v_in ∙ sym (not_taken (partner zero n) v (count_at old n v) k (nat_lt n (n + 1)) (λ j. none-some v (sym none ∙ j))))
+      | inl e ↦ subst (λ (x : ℕ). count_at now x v ≡ cond (nat_lt x (n + 1) && is_partner (partner zero x) v) (count_at old x v - k) (count_at old x v)) (sym e)
+          (untouched v v_in ∙ sym (not_taken (partner zero n) v (count_at old n v) k (nat_lt n (n + 1)) (λ j. none-some v (sym none ∙ j))))
       | inr ne ↦ still u v u_in v_in ne
     ];
   }
@@ -160,17 +178,23 @@ module _ (zero : List (Option ℕ)) (k n : ℕ) (old now : List ℕ) (so_far : A
       record {
         places = length-set now (pair_index n y) (count_at now n y - k) ∙ so_far.places;
         at = λ u v u_in v_in. elim (cases_eq u n) [
-          | inl e ↦ subst (λ (x : ℕ). count_at after x v ≡ cond (nat_lt x (n + 1) && is_partner (partner zero x) v) (count_at old x v - k) (count_at old x v)) (sym e)
+          | inl e ↦ subst (λ (x : ℕ). count_at after x v ≡ cond (nat_lt x (n + 1) && is_partner (partner zero x) v) (count_at old x v - k) (count_at old x v))
+              (sym e)
               (elim (cases_eq v y) [
-                | inl f ↦ subst (λ (w : ℕ). count_at after n w ≡ cond (nat_lt n (n + 1) && is_partner (partner zero n) w) (count_at old n w - k) (count_at old n w)) (sym f) (count_here now n y (count_at now n y - k) so_far.places n_in y_in ∙ (ap (λ (c : ℕ). c - k) (untouched y y_in) ∙ sym (rw (lt-ltb n (n + 1) (omega arith)) (taken_of (partner zero n) y (count_at old n y) k joined))))
-                | inr ne ↦ count_other now n y (count_at now n y - k) so_far.places n_in y_in n v v_in (λ _ g. ne (sym g)) ∙ (untouched v v_in ∙ sym (not_taken (partner zero n) v (count_at old n v) k (nat_lt n (n + 1)) (λ j. ne (same_Some v y (sym j ∙ joined)))))
+                | inl f ↦ subst (λ (w : ℕ). count_at after n w ≡ cond (nat_lt n (n + 1) && is_partner (partner zero n) w) (count_at old n w - k)
+                    (count_at old n w)) (sym f) (count_here now n y (count_at now n y - k) so_far.places n_in y_in
+                    ∙ (ap (λ (c : ℕ). c - k) (untouched y y_in)
+                    ∙ sym (rw (lt-ltb n (n + 1) (omega arith)) (taken_of (partner zero n) y (count_at old n y) k joined))))
+                | inr ne ↦ count_other now n y (count_at now n y - k) so_far.places n_in y_in n v v_in (λ _ g. ne (sym g))
+                    ∙ (untouched v v_in ∙ sym (not_taken (partner zero n) v (count_at old n v) k (nat_lt n (n + 1)) (λ j. ne (same_Some v y (sym j ∙ joined)))))
               ])
           | inr ne ↦ count_other now n y (count_at now n y - k) so_far.places n_in y_in u v v_in (λ g _. ne (sym g)) ∙ still u v u_in v_in ne
         ];
       }
 
 -- those of the first n modules are all, where no other has a partner
-pub all_taken : (zero : List (Option ℕ)) (k n : ℕ) (old new : List ℕ) → n ≤ MAX_MODULES → AreBelow zero n → AreTaken zero k n old new → AreTaken zero k MAX_MODULES old new
+pub all_taken : (zero : List (Option ℕ)) (k n : ℕ) (old new : List ℕ) → n ≤ MAX_MODULES → AreBelow zero n → AreTaken zero k n old new
+    → AreTaken zero k MAX_MODULES old new
 all_taken zero k n old new within low taken = record {
   places = taken.places;
   at = λ u v u_in v_in. elim (cases_lt u n) [
@@ -183,7 +207,10 @@ all_taken zero k n old new within low taken = record {
 }
 
 -- where one module's pair is parted if none of it waits, and the others stay
-pub after_now : (zero zero_now : List (Option ℕ)) (counts now : List ℕ) (n : ℕ) → ((x y : ℕ) → x < n → partner zero x ≡ Some y → 0 < count_at counts x y) → ((x : ℕ) → x ≢ n → partner zero_now x ≡ partner zero x) → ((y : ℕ) → partner zero_now n ≡ Some y → 0 < count_at now n y) → ((x y : ℕ) → x ≢ n → partner zero x ≡ Some y → count_at now x y ≡ count_at counts x y) → (x y : ℕ) → x < n + 1 → partner zero_now x ≡ Some y → 0 < count_at now x y
+pub after_now : (zero zero_now : List (Option ℕ)) (counts now : List ℕ) (n : ℕ) → ((x y : ℕ) → x < n → partner zero x ≡ Some y → 0 < count_at counts x y)
+    → ((x : ℕ) → x ≢ n → partner zero_now x ≡ partner zero x) → ((y : ℕ) → partner zero_now n ≡ Some y → 0 < count_at now n y)
+    → ((x y : ℕ) → x ≢ n → partner zero x ≡ Some y → count_at now x y ≡ count_at counts x y) → (x y : ℕ) → x < n + 1 → partner zero_now x ≡ Some y
+    → 0 < count_at now x y
 after_now zero zero_now counts now n so_far others here same x y = below_more (λ u. partner zero_now u ≡ Some y → 0 < count_at now u y) n (λ u lt joined.
     let ne : u ≢ n = λ e. omega (arith, e, lt) in
     let was = sym (others u ne) ∙ joined in
@@ -191,7 +218,10 @@ after_now zero zero_now counts now n so_far others here same x y = below_more (�
 
 -- ---- no longer
 
-pub tighter : (counts : List ℕ) (zero three : List (Option ℕ)) (most old z t k n : ℕ) → n < MAX_MODULES → k ≡ min (min old z) t → IsTight counts zero three most old → ((y : ℕ) → partner zero n ≡ Some y → z ≡ count_at counts n y) → (partner zero n ≡ None → waiting counts Zero n + z ≡ most) → ((y : ℕ) → partner three n ≡ Some y → t ≡ most) → (partner three n ≡ None → waiting counts Three n + t ≡ most) → IsTight counts zero three most k
+pub tighter : (counts : List ℕ) (zero three : List (Option ℕ)) (most old z t k n : ℕ) → n < MAX_MODULES → k ≡ min (min old z) t
+    → IsTight counts zero three most old → ((y : ℕ) → partner zero n ≡ Some y → z ≡ count_at counts n y)
+    → (partner zero n ≡ None → waiting counts Zero n + z ≡ most) → ((y : ℕ) → partner three n ≡ Some y → t ≡ most)
+    → (partner three n ≡ None → waiting counts Three n + t ≡ most) → IsTight counts zero three most k
 tighter counts zero three most old z t k n n_in is tight z_pair z_out t_pair t_out = elim (cases_lt k old) [
   | inr le ↦ subst (IsTight counts zero three most) (omega arith) tight
   | inl lt ↦ elim (cases_lt k z) [

@@ -105,14 +105,16 @@ pub partner_cases : (o : Option ℕ) (P : Type 0) → (o ≡ None → P) → ((x
 partner_cases None P none some = none refl
 partner_cases (Some x) P none some = some x refl
 
-pub partners_sum : (n m : ℕ) (p : ℕ → Option ℕ) (f : ℕ → ℕ) → ((y x : ℕ) → y < n → p y ≡ Some x → x < m) → ((y z x : ℕ) → p y ≡ Some x → p z ≡ Some x → y ≡ z) → sum_below n (λ y. at_partner f (p y)) ≤ sum_below m f
+pub partners_sum : (n m : ℕ) (p : ℕ → Option ℕ) (f : ℕ → ℕ) → ((y x : ℕ) → y < n → p y ≡ Some x → x < m) → ((y z x : ℕ) → p y ≡ Some x → p z ≡ Some x → y ≡ z)
+    → sum_below n (λ y. at_partner f (p y)) ≤ sum_below m f
 unfolding sum_below
 partners_sum zero m p f low apart = omega arith
 partners_sum (suc n) m p f low apart = partner_cases (p n) (sum_below (suc n) (λ y. at_partner f (p y)) ≤ sum_below m f)
     (λ none. omega (arith, ap (at_partner f) none, partners_sum n m p f (λ y x lt. low y x (omega arith)) apart))
     (λ x some.
     let rest = partners_sum n m p (without x f) (λ y z lt. low y z (omega arith)) apart in
-    let same = sum_same n (λ y. at_partner f (p y)) (λ y. at_partner (without x f) (p y)) (λ y lt. partner_cases (p y) (at_partner f (p y) ≡ at_partner (without x f) (p y))
+    let same = sum_same n (λ y. at_partner f (p y)) (λ y. at_partner (without x f) (p y))
+    (λ y lt. partner_cases (p y) (at_partner f (p y) ≡ at_partner (without x f) (p y))
     (λ none. rw none refl)
     (λ z is. rw is (sym (without_other x z f (λ e. omega (arith, lt, apart y n x (is ∙ ap (λ (k : ℕ). Some k) e) some)))))) in
     omega (arith, ap (at_partner f) some, sum_without m x f (low n x (omega arith) some), rest, same))

@@ -1,5 +1,5 @@
--- The settings of a schedule have each transfer of the batch once. So what is counted over them, one by
--- one, is counted over the batch.
+-- The settings of a schedule have each transfer of the batch once. So what is counted over them,
+-- one by one, is counted over the batch.
 use Rattle.std.proofs.Common.{◌≡◌, ◌==◌, ℕ, zero, suc, ◌+◌, ◌<◌, ◌≤◌, List, [], ◌∷◌, ◌++◌, length, take, Bool, cond, Option, Some, None, slice_get, refl, sym, ap, ◌∙◌, inl, inr, arith}
 use Rattle.std.specs.Prelude.{count_by, sum_by}
 use Rattle.std.specs.List.{concat}
@@ -44,7 +44,8 @@ module _ (batch : List Transfer) (p : Transfer → Bool) where
     | inl q ↦
         let next : suc n ≡ n + 1 = omega arith in
         let more : take (suc n) batch ≡ take n batch ++ q.0 ∷ [] = ap (λ (k : ℕ). take k batch) next ∙ one_more batch n q.0 q.2 in
-        let pushed : count_by p (take n batch ++ q.0 ∷ []) ≡ count_by p (take n batch) + worth_of (Some q.0) = sum_by_push (λ x. cond (p x) 1 0) (take n batch) q.0 in
+        let pushed : count_by p (take n batch ++ q.0 ∷ []) ≡ count_by p (take n batch) + worth_of (Some q.0) = sum_by_push (λ x. cond (p x) 1 0) (take n batch)
+        q.0 in
         let here : sum_below (suc n) worth ≡ count_by p (take n batch ++ q.0 ∷ []) = omega (arith, pushed, ap worth_of q.2, below_worth n (omega arith)) in
         here ∙ sym (ap (count_by p) more)
     | inr q ↦ absurd (omega (arith, q.0))
@@ -76,9 +77,16 @@ module _ (batch : List Transfer) (p : Transfer → Bool) where
 
   all_worth : (settings : List (List ℕ)) → sum_by worth (concat settings) ≡ sum_by (λ setting. count_by p (members batch setting)) settings
   all_worth [] = refl
-  all_worth (s ∷ settings) = omega (arith, sum_by-append worth s (concat settings), members_worth s, all_worth settings, sum_by-cons (λ setting. count_by p (members batch setting)) s settings)
+  all_worth (s ∷ settings) = omega (
+    arith,
+    sum_by-append worth s (concat settings),
+    members_worth s,
+    all_worth settings,
+    sum_by-cons (λ setting. count_by p (members batch setting)) s settings,
+  )
 
-  pub counted_once : (settings : List (List ℕ)) → IsScheduleOf batch settings → sum_by (λ setting. count_by p (members batch setting)) settings ≡ count_by p batch
+  pub counted_once : (settings : List (List ℕ)) → IsScheduleOf batch settings → sum_by (λ setting. count_by p (members batch setting)) settings
+      ≡ count_by p batch
   counted_once settings schedule =
       let whole : take (length batch) batch ≡ batch = take_all (length batch) batch (omega arith) in
       sym (all_worth settings)

@@ -1,5 +1,6 @@
 -- Settings that are made of the numbers of settings that transfers have.
-use Rattle.std.specs.Prelude.{◌≡◌, ℕ, ◌<◌, ◌≤◌, List, [], ◌∷◌, ◌++◌, length, All, AllPairs, Contains, slice_index, slice_index_or, slice_set}
+use Rattle.std.specs.Prelude.{◌≡◌, ℕ, ◌<◌, ◌≤◌, List, [], ◌∷◌, ◌++◌, length, All, AllPairs}
+use Rattle.std.specs.Prelude.{Contains, slice_index, slice_index_or, slice_set}
 use Rattle.link_graph.specs.Schedules.{times}
 
 -- so many lists, each of them empty

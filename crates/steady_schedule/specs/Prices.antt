@@ -1,6 +1,7 @@
--- Prices, which show how often a schedule has to change the switch. A step is a run of settings that
--- join the same pairs. Each link has a price for each length of a step.
-use Rattle.std.specs.Prelude.{◌≡◌, ℕ, ◌+◌, ◌-◌, ◌*◌, ◌<◌, ◌≤◌, List, length, All, cond, nat_lt, slice_index, sum_by}
+-- Prices, which show how often a schedule has to change the switch. A step is a run of settings
+-- that join the same pairs. Each link has a price for each length of a step.
+use Rattle.std.specs.Prelude.{◌≡◌, ℕ, ◌+◌, ◌-◌, ◌*◌, ◌<◌, ◌≤◌, List, length, All, cond, nat_lt}
+use Rattle.std.specs.Prelude.{slice_index, sum_by}
 use Rattle.batch.specs.declared.limits.TheConstants.{MAX_MODULES, MAX_TRANSFERS}
 use Rattle.batch.specs.declared.transfer.Transfer.{Transfer}
 use Rattle.link_graph.specs.declared.limits.TheConstants.{LINKS}
@@ -8,7 +9,8 @@ use Rattle.link_graph.specs.declared.link.End.TheVariants.{Zero, Three}
 use Rattle.link_graph.specs.declared.link.Link.{Link}
 use Rattle.link_graph.specs.Schedules.{IsScheduleOf}
 use Rattle.steady_schedule.specs.Changes.{changes}
-use Rattle.steady_schedule.specs.Waiting.{sum_below, count_at, count_between, waiting, ArePairCounts}
+use Rattle.steady_schedule.specs.Waiting.{sum_below, count_at, count_between, waiting}
+use Rattle.steady_schedule.specs.Waiting.{ArePairCounts}
 use Rattle.steady_schedule.specs.declared.priced.PriceTable.{PriceTable}
 
 -- each schedule of the batch with so many settings changes the switch at least so often

@@ -1,6 +1,7 @@
 -- How many transfers of each pair of links wait for a setting. Those of link 0 of module u and link
 -- 3 of module v stand at the place `u * MAX_MODULES + v`.
-use Rattle.std.specs.Prelude.{◌≡◌, ℕ, zero, suc, ◌+◌, ◌*◌, ◌<◌, ◌≤◌, List, length, ◌==◌, ◌&&◌, count_by, nat_lt, slice_index}
+use Rattle.std.specs.Prelude.{◌≡◌, ℕ, zero, suc, ◌+◌, ◌*◌, ◌<◌, ◌≤◌, List, length, ◌==◌, ◌&&◌}
+use Rattle.std.specs.Prelude.{count_by, nat_lt, slice_index}
 use Rattle.batch.specs.declared.limits.TheConstants.{MAX_MODULES}
 use Rattle.batch.specs.declared.transfer.Transfer.{Transfer}
 use Rattle.link_graph.specs.declared.link.End.{End}

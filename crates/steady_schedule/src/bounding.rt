@@ -10,7 +10,7 @@ ghost use Rattle.steady_schedule.specs.Prices.{AreNeeded, ShowChanges, IsPriceTa
 use crate::choosing::most_with;
 use crate::partners::link_at;
 use crate::priced::PriceTable;
-use crate::pricing::{Needs, SCALE, CoverCosts};
+use crate::pricing::{CoverCosts, Needs, SCALE};
 use crate::remaining::Remaining;
 use batch::{MAX_MODULES, MAX_TRANSFERS};
 use link_graph::{LINKS, Link, LinkGraph};

@@ -5,16 +5,17 @@ ghost use Rattle.batch.specs.declared.limits.TheConstants.{MAX_MODULES, MAX_TRAN
 ghost use Rattle.steady_schedule.specs.Covers.{KeepsPartners};
 ghost use Rattle.link_graph.specs.Masks.{has_bit, has_pair};
 ghost use Rattle.steady_schedule.specs.Matchings.{partner, AreMatched};
-ghost use Rattle.steady_schedule.specs.Reaches.{AreHeld, HaveHeld, HaveEach, IsOverMask, JoinsNeeded, IsBarred, AreAtMost};
+ghost use Rattle.steady_schedule.specs.Reaches.{AreHeld, HaveHeld, HaveEach, IsOverMask};
+ghost use Rattle.steady_schedule.specs.Reaches.{JoinsNeeded, IsBarred, AreAtMost};
 ghost use Rattle.steady_schedule.specs.Searches.{JoinsNear};
 ghost use Rattle.steady_schedule.specs.Waiting.{HaveMost, NoneWait};
 
-use crate::masks::{TrialOrder, TrialOrders, first, has, lowest, without_module};
+use crate::masks::{TrialOrder, TrialOrders, first, without_module};
 use crate::matching::{Matching, Partners, augment};
 use crate::reach::{Holdable, Reach};
 use crate::remaining::Remaining;
 use batch::MAX_MODULES;
-use link_graph::End;
+use link_graph::{End, has_module, lowest};
 
 /// A link that has to be joined, and found no partner; and the links of the other end that the
 /// search didn't see.
@@ -47,9 +48,9 @@ fn just_pairs(reach: &Reach, modules: usize) -> Holdable
     pairs
 }
 
-/// Finds a partner for a link 0, where it has none, by one of these pairs. Where that is in vain, it
-/// takes the links 3 that it saw out of those that are open: each search from there is in vain too.
-/// No contract says so.
+/// Finds a partner for a link 0, where it has none, by one of these pairs. Where that is in vain,
+/// it takes the links 3 that it saw out of those that are open: each search from there is in vain
+/// too. No contract says so.
 fn join_open(pairs: &Holdable, open: &mut u32, matching: &mut Matching, zero: usize)
     requires { zero < MAX_MODULES }
     ensures { JoinsNear pairs.now.near matching.old.zero matching.new.zero }
@@ -103,7 +104,12 @@ fn join_needed_one(held: &Holdable, x: usize, of: &mut Partners, back: &mut Part
 
 /// Finds a partner for each link that has to be joined, in this order, or tells the first for which
 /// it can't.
-fn join_needed(held: &Holdable, order: TrialOrder, of: &mut Partners, back: &mut Partners) -> Option<Unmatched>
+fn join_needed(
+    held: &Holdable,
+    order: TrialOrder,
+    of: &mut Partners,
+    back: &mut Partners,
+) -> Option<Unmatched>
     requires matched { AreMatched of.old back.old }
     ensures matched { AreMatched of.new back.new }
     ensures near { JoinsNear held.now.near of.old of.new }
@@ -149,15 +155,16 @@ fn is_seen(partner: Option<u8>, unseen: u32) -> bool
         → (y : ℕ) → partner ≡ Some y → has_bit unseen y ≡ true }
 {
     match partner {
-        Some(other) => !has(unseen, other as usize),
+        Some(other) => !has_module(unseen, other as usize),
         None => false,
     }
 }
 
-/// For how many settings a matching could be held at most, where a link found no partner for as many
-/// as were tried. For more the same links stand in the way: this one, and those that are joined to
-/// links that were seen. Each of them has to be joined then, and can't be to a link that wasn't seen.
-/// So they are one more than the links that they can be joined to. No contract says so.
+/// For how many settings a matching could be held at most, where a link found no partner for as
+/// many as were tried. For more the same links stand in the way: this one, and those that are
+/// joined to links that were seen. Each of them has to be joined then, and can't be to a link that
+/// wasn't seen. So they are one more than the links that they can be joined to. No contract says
+/// so.
 fn shorter(
     remaining: &Remaining,
     end: End,
@@ -189,8 +196,9 @@ fn shorter(
 }
 
 /// Joins all links that have to be joined. Where it can't, gives for how many settings a matching
-/// could be held at most. A matching can be held for one setting. Else links in the way would all be
-/// full, and have transfers with links alone that were seen. These would have more than they may.
+/// could be held at most. A matching can be held for one setting. Else links in the way would all
+/// be full, and have transfers with links alone that were seen. These would have more than they
+/// may.
 fn join_all_needed(
     remaining: &Remaining,
     reach: &Reach,

@@ -1,20 +1,21 @@
-//! A matching of the greatest worth.
+//! A matching of the greatest weight.
 //!
-//! The links have prices: those of two links are together no less than the worth of their pair. One
-//! link 0 after the other is joined, on the way by which prices exceed worths the least (Kuhn 1955;
-//! Tomizawa 1971). No contract says that no matching is worth more.
+//! The links have prices: those of two links are together no less than the weight of their pair.
+//! One link 0 after the other is matched, along the alternating path by which prices exceed weights
+//! the least (Kuhn 1955; Tomizawa 1971). No contract says that no matching weighs more.
 
 ghost use Rattle.std.specs.Prelude.{◌≡◌, ◌<◌, ◌≤◌, ℕ, All, Some, None, IfSome, true};
 ghost use Rattle.batch.specs.declared.limits.TheConstants.{MAX_MODULES};
 ghost use Rattle.link_graph.specs.Masks.{has_bit};
 ghost use Rattle.steady_schedule.specs.Matchings.{partner};
 
-use crate::masks::{lowest, without_module};
+use crate::masks::without_module;
 use crate::matching::{Matching, Partners, join, part};
 use crate::remaining::PAIRS;
 use batch::MAX_MODULES;
+use link_graph::lowest;
 
-/// What each pair is worth: that of link 0 of module u and link 3 of module v is at the place
+/// The weight of each pair: that of link 0 of module u and link 3 of module v is at the place
 /// `u * MAX_MODULES + v`.
 pub(crate) type Weights = [u32; PAIRS];
 
@@ -25,12 +26,12 @@ struct Prices {
     three: [u32; MAX_MODULES],
 }
 
-/// The ways from a link 0 to links 3 that are known.
+/// The alternating paths from a link 0 to links 3 that are known.
 #[derive(Drop)]
 struct AlternatingPaths {
-    /// By how much prices exceed worths on the best way to each link 3.
+    /// By how much prices exceed weights on the best path to each link 3.
     excess: [u32; MAX_MODULES],
-    /// The link 0 before it on that way.
+    /// The link 0 before it on that path.
     before: [usize; MAX_MODULES],
     ghost low: { All (λ zero. zero < MAX_MODULES) before },
 }
@@ -45,7 +46,7 @@ fn first_modules(modules: usize) -> u32
     (1u32 << modules) - 1
 }
 
-/// What the pair of a link 0 is worth that is worth the most.
+/// The greatest weight of a pair of a link 0.
 fn most_worth(worths: &Weights, zero: usize, modules: usize) -> u32
     requires zero { zero < MAX_MODULES }
     requires within { modules ≤ MAX_MODULES }
@@ -58,7 +59,7 @@ fn most_worth(worths: &Weights, zero: usize, modules: usize) -> u32
 }
 
 impl Prices {
-    /// Prices that no pair is worth more than.
+    /// Prices that no pair's weight exceeds.
     fn of(worths: &Weights, modules: usize) -> Prices
         requires { modules ≤ MAX_MODULES }
     {
@@ -72,8 +73,15 @@ impl Prices {
         prices
     }
 
-    /// Changes them so that they exceed no worth on the way from a link 0 whose excess is so much.
-    fn update_prices(&mut self, ways: &AlternatingPaths, three_partners: &Partners, root: usize, far: u32)
+    /// Changes them so that they exceed no weight on the path from a link 0 whose excess is so
+    /// much.
+    fn update_prices(
+        &mut self,
+        ways: &AlternatingPaths,
+        three_partners: &Partners,
+        root: usize,
+        far: u32,
+    )
         requires root { root < MAX_MODULES }
         requires partners { (x y : ℕ) → partner three_partners.now x ≡ Some y → y < MAX_MODULES }
     {
@@ -97,8 +105,8 @@ impl AlternatingPaths {
         }
     }
 
-    /// Goes on from a link 0, whose way has so much excess, to these links 3, and gives the one that
-    /// has the least, where that isn't beyond all numbers.
+    /// Goes on from a link 0, whose path has so much excess, to these links 3, and gives the one
+    /// that has the least, where that isn't beyond all numbers.
     fn go_on(
         &mut self,
         worths: &Weights,
@@ -183,7 +191,7 @@ fn join_instead(matching: &mut Matching, zero: usize, three: usize) -> Option<us
     Some(other)
 }
 
-/// Joins the links on the way to a link 3 that is free.
+/// Joins the links on the path to a link 3 that is free.
 fn join_way(matching: &mut Matching, ways: &AlternatingPaths, last: usize)
     requires low { last < MAX_MODULES }
     requires free { partner matching.old.three last ≡ None }
@@ -197,9 +205,13 @@ fn join_way(matching: &mut Matching, ways: &AlternatingPaths, last: usize)
     }
 }
 
-/// A matching of the first modules that is worth as much as any, with pairs of no worth, where it finds that before so many
-/// looks from a link at the others are over.
-pub(crate) fn heaviest_matching(worths: &Weights, modules: usize, looks: &mut usize) -> Option<Matching>
+/// A matching of the first modules that weighs as much as any, with pairs of weight 0, where it
+/// finds that before so many looks from a link at the others are over.
+pub(crate) fn heaviest_matching(
+    worths: &Weights,
+    modules: usize,
+    looks: &mut usize,
+) -> Option<Matching>
     requires { modules ≤ MAX_MODULES }
 {
     let mut prices = Prices::of(worths, modules);

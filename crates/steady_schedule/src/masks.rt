@@ -4,18 +4,7 @@ ghost use Rattle.std.specs.Prelude.{◌≡◌, ◌≢◌, ◌<◌, ℕ, true, fa
 ghost use Rattle.link_graph.specs.Masks.{has_bit};
 
 use batch::MAX_MODULES;
-
-/// A mask of modules for each module.
-pub(crate) type Masks = [u32; MAX_MODULES];
-
-/// The least module of a mask that has any.
-pub(crate) fn lowest(mask: u32) -> usize
-    requires { 0 < mask }
-    ensures within { result < MAX_MODULES }
-    ensures has { has_bit mask result ≡ true }
-{
-    mask.trailing_zeros() as usize
-}
+use link_graph::lowest;
 
 /// In which order modules are tried.
 #[derive(Clone, Copy)]
@@ -30,8 +19,8 @@ pub(crate) struct TrialOrders {
     /// In which order the modules of each end are tried.
     pub(crate) zero: TrialOrder,
     pub(crate) three: TrialOrder,
-    /// How many links are looked at for each transfer, at most, while steps are sought that use up as
-    /// many pairs as they can. So that takes no more time than some plans.
+    /// How many links are looked at for each transfer, at most, while steps are sought that use up
+    /// as many pairs as they can. So that takes no more time than some plans.
     pub(crate) looks: usize,
 }
 
@@ -88,14 +77,6 @@ pub(crate) fn first_of(mask: u32, preferred: u32, order: TrialOrder) -> usize
         return first(better, order);
     }
     first(mask, order)
-}
-
-/// Whether a module is in a mask.
-pub(crate) fn has(mask: u32, module: usize) -> bool
-    requires { «module» < MAX_MODULES }
-    ensures { result ≡ has_bit mask «module» }
-{
-    mask >> module & 1 == 1
 }
 
 /// The mask with a module more, where it hadn't it.

@@ -7,9 +7,10 @@ ghost use Rattle.link_graph.specs.Masks.{has_bit};
 ghost use Rattle.steady_schedule.specs.Matchings.{partner, AreMatched, AreBelow};
 ghost use Rattle.steady_schedule.specs.Searches.{AllSeen, IsStuck, IsInVain, IsFound, IsFreed};
 
-use crate::masks::{first_of, has, with_module, without_module};
+use crate::masks::{first_of, with_module, without_module};
 use crate::reach::Holdable;
 use batch::MAX_MODULES;
+use link_graph::has_module;
 
 /// For each module the one that its link is joined to, where it is joined. Bytes, since each choice
 /// has tables of its own.
@@ -94,7 +95,8 @@ fn make_room(
     ensures freed { result ≡ true
         → IsFreed held.now.near held.now.needed unseen.old y of.old of.new back.old back.new }
     ensures vain { result ≡ false
-        → IsInVain held.now.near held.now.needed unseen.old unseen.new of.old of.new back.old back.new }
+        → IsInVain held.now.near held.now.needed unseen.old unseen.new of.old of.new back.old
+        back.new }
     ensures stuck { result ≡ false → IsStuck held.now.near held.now.needed unseen.new back.new y }
     ensures fewer { unseen.new ≤ unseen.old }
 {
@@ -103,7 +105,7 @@ fn make_room(
     };
     let x = x as usize;
     part(of, back, x, y);
-    if !has(held.needed, x) {
+    if !has_module(held.needed, x) {
         return true;
     }
     if augment(x, held, of, back, unseen) {
@@ -131,7 +133,8 @@ pub(crate) fn augment(
     ensures found { result ≡ true
         → IsFound held.now.near held.now.needed unseen.old x of.old of.new back.old back.new }
     ensures vain { result ≡ false
-        → IsInVain held.now.near held.now.needed unseen.old unseen.new of.old of.new back.old back.new }
+        → IsInVain held.now.near held.now.needed unseen.old unseen.new of.old of.new back.old
+        back.new }
     ensures seen { result ≡ false → AllSeen held.now.near unseen.new x }
     ensures fewer { unseen.new ≤ unseen.old }
 {

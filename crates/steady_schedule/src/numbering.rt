@@ -1,6 +1,7 @@
 //! The number of its setting for each transfer, and the settings that these make.
 
-ghost use Rattle.std.specs.Prelude.{◌≡◌, ◌≢◌, ℕ, ◌+◌, ◌-◌, ◌*◌, ◌<◌, ◌≤◌, All, Some, None, length, set, IfOk, slice_index};
+ghost use Rattle.std.specs.Prelude.{◌≡◌, ◌≢◌, ℕ, ◌+◌, ◌-◌, ◌*◌, ◌<◌, ◌≤◌, All, Some, None, length};
+ghost use Rattle.std.specs.Prelude.{set, IfOk, slice_index};
 ghost use Rattle.batch.specs.Batches.{IsBatch};
 ghost use Rattle.batch.specs.declared.limits.TheConstants.{MAX_MODULES, MAX_TRANSFERS};
 ghost use Rattle.link_graph.specs.declared.link.Link.{Link};
@@ -8,9 +9,13 @@ ghost use Rattle.link_graph.specs.Counts.{uses};
 ghost use Rattle.link_graph.specs.Schedules.{lists_of};
 ghost use Rattle.steady_schedule.specs.Matchings.{partner, AreBelow};
 ghost use Rattle.steady_schedule.specs.Searches.{AreNear};
-ghost use Rattle.steady_schedule.specs.Slots.{slot, AreFirstSlots, AreSlotsOf, IsKeptFor, IsHeldAs, AreNumbered, AreNumberedFrom, KeepNumbers, AreSlotsFilled, AreReadInto, AreFilled, AreSlotsBelow, AreNumberedSettings};
+ghost use Rattle.steady_schedule.specs.Slots.{slot, AreFirstSlots, AreSlotsOf, IsKeptFor, IsHeldAs};
+ghost use Rattle.steady_schedule.specs.Slots.{AreNumbered, AreNumberedFrom, KeepNumbers};
+ghost use Rattle.steady_schedule.specs.Slots.{AreSlotsFilled, AreReadInto, AreFilled};
+ghost use Rattle.steady_schedule.specs.Slots.{AreSlotsBelow, AreNumberedSettings};
 ghost use Rattle.steady_schedule.specs.Steps.{AreTaken, CanHold};
-ghost use Rattle.steady_schedule.specs.Waiting.{sum_below, pair_index, count_at, ArePairCounts, HaveMost, NoneWait};
+ghost use Rattle.steady_schedule.specs.Waiting.{sum_below, pair_index, count_at, ArePairCounts};
+ghost use Rattle.steady_schedule.specs.Waiting.{HaveMost, NoneWait};
 
 use crate::gathering::{empty_lists, push_into};
 use crate::masks::{TRIAL_ORDERS, TrialOrders};
@@ -175,10 +180,10 @@ fn any_step(
     held
 }
 
-/// Writes the numbers of their settings for all transfers that wait, by steps that are made so. Gives
-/// how many steps that makes; no contract says so. Where it can't make fewer than `enough` it ends
-/// early, and gives that. No step can be longer than `longest`; gives how long the first one can be,
-/// too.
+/// Writes the numbers of their settings for all transfers that wait, by steps that are made so.
+/// Gives how many steps that makes; no contract says so. Where it can't make fewer than `enough` it
+/// ends early, and gives that. No step can be longer than `longest`; gives how long the first one
+/// can be, too.
 fn fill(
     remaining: &Remaining,
     places: &SlotTable<'_>,

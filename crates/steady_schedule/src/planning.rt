@@ -62,8 +62,8 @@ fn plan_of(graph: LinkGraph, schedule: Schedule, certificate: Certificate) -> St
 ///
 /// It changes after a setting only where that joined a pair of links for the last time, or where a
 /// link that it left free is used in each later setting. With the first setting it does so at most
-/// once for each pair of links in use together, and once for each link in use. Takes time that grows
-/// with the number of transfers.
+/// once for each pair of links in use together, and once for each link in use. Takes time that
+/// grows with the number of transfers.
 pub fn steady(alloc: Global, batch: &Batch) -> Result<Steady, AllocError>
     ensures batch { IfOk result (λ steady. steady.batch ≡ batch.now) }
     ensures steady { IfOk result IsSteady }

@@ -1,10 +1,12 @@
 //! Prices of links, which show how often a schedule has to change the switch.
 
-ghost use Rattle.std.specs.Prelude.{◌≡◌, ℕ, ◌+◌, ◌-◌, ◌*◌, ◌<◌, ◌≤◌, Bool, true, length, slice_index};
+ghost use Rattle.std.specs.Prelude.{◌≡◌, ℕ, ◌+◌, ◌-◌, ◌*◌, ◌<◌, ◌≤◌, Bool, true, length};
+ghost use Rattle.std.specs.Prelude.{slice_index};
 ghost use Rattle.batch.specs.Batches.{IsBatch};
 ghost use Rattle.batch.specs.declared.limits.TheConstants.{MAX_MODULES, MAX_TRANSFERS};
 ghost use Rattle.link_graph.specs.declared.limits.TheConstants.{LINKS};
-ghost use Rattle.steady_schedule.specs.Prices.{LimitsSteps, CostsAtLeast, price_at, price_for, number_for, AreFair, NoneCostsMore, ShowChanges};
+ghost use Rattle.steady_schedule.specs.Prices.{LimitsSteps, CostsAtLeast, price_at, price_for};
+ghost use Rattle.steady_schedule.specs.Prices.{number_for, AreFair, NoneCostsMore, ShowChanges};
 ghost use Rattle.steady_schedule.specs.Waiting.{sum_below, waiting, ArePairCounts, HaveMost};
 
 use crate::remaining::Remaining;
@@ -57,8 +59,15 @@ impl Needs<'_> {
         }
     }
 
-    /// What it costs at least to make up each number of a link 0, or of those links 3 that are idle.
-    fn costs_of(&self, prices: &[u32], zero: usize, ways: &mut CoverCosts, pieces: &mut [u32]) -> u64
+    /// What it costs at least to make up each number of a link 0, or of those links 3 that are
+    /// idle.
+    fn costs_of(
+        &self,
+        prices: &[u32],
+        zero: usize,
+        ways: &mut CoverCosts,
+        pieces: &mut [u32],
+    ) -> u64
         requires fair { AreFair prices.now self.now.top }
         requires zero { zero ≤ MAX_MODULES }
         requires pieces { length pieces.old ≡ length prices.now }
@@ -76,7 +85,12 @@ impl Needs<'_> {
     }
 
     /// How many changes these prices show. Counts the pieces of the cheapest ways.
-    pub(crate) fn shown_by(&self, prices: &[u32], ways: &mut CoverCosts, pieces: &mut [u32]) -> usize
+    pub(crate) fn shown_by(
+        &self,
+        prices: &[u32],
+        ways: &mut CoverCosts,
+        pieces: &mut [u32],
+    ) -> usize
         requires sized { length prices.now ≡ (self.now.top + 1) * LINKS }
         requires pieces { length pieces.old ≡ length prices.now }
         ensures { ShowChanges self.now.graph.now self.now.settings prices.now self.now.top result }

@@ -5,9 +5,10 @@ ghost use Rattle.batch.specs.declared.limits.TheConstants.{MAX_MODULES, MAX_TRAN
 ghost use Rattle.link_graph.specs.Masks.{has_pair};
 ghost use Rattle.steady_schedule.specs.Reaches.{AreHeld, HaveHeld, IsOverMask};
 
-use crate::masks::{Masks, TrialOrder, TrialOrders, lowest, with_module, without_module};
+use crate::masks::{TrialOrder, TrialOrders, with_module, without_module};
 use crate::remaining::Remaining;
 use batch::MAX_MODULES;
+use link_graph::{Masks, lowest};
 
 /// Of the links of one end, what can be held for some settings.
 #[derive(Drop)]

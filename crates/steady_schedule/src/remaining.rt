@@ -5,11 +5,12 @@ ghost use Rattle.batch.specs.Batches.{IsBatch};
 ghost use Rattle.batch.specs.declared.limits.TheConstants.{MAX_MODULES, MAX_TRANSFERS};
 ghost use Rattle.link_graph.specs.declared.link.End.{End};
 ghost use Rattle.link_graph.specs.Masks.{has_pair};
-ghost use Rattle.steady_schedule.specs.Waiting.{pair_index, count_at, count_between, waiting, ArePairCounts, AreSummaries, NoneWait};
+ghost use Rattle.steady_schedule.specs.Waiting.{pair_index, count_at, count_between, waiting};
+ghost use Rattle.steady_schedule.specs.Waiting.{ArePairCounts, AreSummaries, NoneWait};
 
-use crate::masks::{Masks, with_module, without_module};
+use crate::masks::{with_module, without_module};
 use batch::MAX_MODULES;
-use link_graph::{End, LinkGraph};
+use link_graph::{End, LinkGraph, Masks};
 
 /// How many pairs of a link 0 and a link 3 there are.
 pub(crate) const PAIRS: usize = MAX_MODULES * MAX_MODULES;

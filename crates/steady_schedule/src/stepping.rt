@@ -10,10 +10,11 @@ ghost use Rattle.steady_schedule.specs.Steps.{CanHold};
 ghost use Rattle.steady_schedule.specs.Waiting.{count_at, waiting, HaveMost, NoneWait};
 
 use crate::choosing::{Choice, choose};
-use crate::masks::{Masks, TrialOrders, lowest, without_module};
+use crate::masks::{TrialOrders, without_module};
 use crate::matching::{Matching, free, join};
 use crate::remaining::Remaining;
 use batch::MAX_MODULES;
+use link_graph::{Masks, lowest};
 
 /// Joins a link 0 that is free to one of these links 3, which are free, where it is near to any.
 fn join_one(near: &Masks, matching: &mut Matching, zero: usize, free: &mut u32)

@@ -10,24 +10,25 @@ ghost use Rattle.steady_schedule.specs.Steps.{CanHold};
 ghost use Rattle.steady_schedule.specs.Waiting.{HaveMost, NoneWait};
 
 use crate::heaviest::{Weights, heaviest_matching};
-use crate::masks::{TRIAL_ORDERS, has, lowest, with_module, without_module};
+use crate::masks::{TRIAL_ORDERS, with_module, without_module};
 use crate::matching::{Matching, Partners, part};
 use crate::reach::Reach;
-use crate::remaining::{PAIRS, Remaining, EndCounts};
+use crate::remaining::{EndCounts, PAIRS, Remaining};
 use crate::stepping::longest_hold;
 use batch::{MAX_MODULES, MAX_TRANSFERS};
+use link_graph::{has_module, lowest};
 
 /// How many pairs, and links that may be idle, a step of each length would use up.
 type Lengths = [u16; MAX_TRANSFERS + 1];
 
-/// What a pair is worth where it is joined.
-const JOINED: u32 = 1;
+/// The weight of a pair where it is joined.
+const JOINED_WEIGHT: u32 = 1;
 
 /// What more where it is used up.
-const USED_UP: u32 = 2000;
+const USED_UP_WEIGHT: u32 = 2000;
 
 /// What more for each link of it that has to be joined: more than all that.
-const NEEDED: u32 = 1_000_000;
+const NEEDED_WEIGHT: u32 = 1_000_000;
 
 /// Counts one more of a length, where that isn't 0.
 fn count_length(lengths: &mut Lengths, length: usize)
@@ -108,11 +109,12 @@ fn worth(reach: &Reach, full: (u32, u32), zero: usize, three: usize) -> u32
     requires zero { zero < MAX_MODULES }
     requires three { three < MAX_MODULES }
 {
-    let used_up = has(reach.zero.just[zero], three) as u32;
-    let needed = has(reach.zero.needed, zero) as u32 + has(reach.three.needed, three) as u32;
-    let idle = has(full.0, zero) as u32 + has(full.1, three) as u32;
-    let worth = JOINED + USED_UP * used_up + NEEDED * needed;
-    worth.saturating_sub(USED_UP * idle)
+    let used_up = has_module(reach.zero.just[zero], three) as u32;
+    let needed = has_module(reach.zero.needed, zero) as u32
+        + has_module(reach.three.needed, three) as u32;
+    let idle = has_module(full.0, zero) as u32 + has_module(full.1, three) as u32;
+    let worth = JOINED_WEIGHT + USED_UP_WEIGHT * used_up + NEEDED_WEIGHT * needed;
+    worth.saturating_sub(USED_UP_WEIGHT * idle)
 }
 
 /// Puts in what the pairs of a link 0 are worth.
@@ -155,7 +157,7 @@ fn part_pair(worths: &Weights, reach: &Reach, matching: &mut Matching, zero: usi
         return;
     };
     let three = three as usize;
-    if !has(reach.zero.near[zero], three) || worths[zero * MAX_MODULES + three] == 0 {
+    if !has_module(reach.zero.near[zero], three) || worths[zero * MAX_MODULES + three] == 0 {
         part(&mut matching.zero, &mut matching.three, zero, three);
     }
 }

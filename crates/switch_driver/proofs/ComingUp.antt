@@ -15,10 +15,13 @@ use Rattle.switch_driver.specs.declared.stream.SwitchStream.{SwitchStream}
 
 -- ---- over a stream
 
-pub passed_none : {I O : Type 0} (contents : O → Option (List ℕ)) (remaining : I → Option (List ℕ)) (stream : SwitchStream I O) (before : List Passing) → HasPassed contents remaining stream stream before before
+pub passed_none : {I O : Type 0} (contents : O → Option (List ℕ)) (remaining : I → Option (List ℕ)) (stream : SwitchStream I O) (before : List Passing)
+    → HasPassed contents remaining stream stream before before
 passed_none contents remaining stream before = ([], carried_none contents remaining stream before)
 
-pub passed_then : {I O : Type 0} (contents : O → Option (List ℕ)) (remaining : I → Option (List ℕ)) (old mid new : SwitchStream I O) (before now after : List Passing) → HasPassed contents remaining old mid before now → HasPassed contents remaining mid new now after → HasPassed contents remaining old new before after
+pub passed_then : {I O : Type 0} (contents : O → Option (List ℕ)) (remaining : I → Option (List ℕ)) (old mid new : SwitchStream I O)
+    (before now after : List Passing) → HasPassed contents remaining old mid before now → HasPassed contents remaining mid new now after
+    → HasPassed contents remaining old new before after
 passed_then contents remaining old mid new before now after p q = (p.0 ++ q.0, carried_then contents remaining old mid new before now after p.0 q.0 p.1 q.1)
 
 -- ---- what is noted
@@ -32,9 +35,11 @@ pub waking_ports : AreCommands (ending ++ own_joins)
 waking_ports = (tt, (tt, (tt, joins_ports 0 PORTS (omega arith))))
 
 -- one answer more
-pub answers_more : (chip : Chip) (start count output : ℕ) → start + count ≡ output → heard_from chip (map own_answer (range_with_len start (count + 1))) ≡ heard_from chip (map own_answer (range_with_len start count)) ++ heard_from chip (own_answer output ∷ [])
+pub answers_more : (chip : Chip) (start count output : ℕ) → start + count ≡ output → heard_from chip (map own_answer (range_with_len start (count + 1)))
+    ≡ heard_from chip (map own_answer (range_with_len start count)) ++ heard_from chip (own_answer output ∷ [])
 answers_more chip start count output at =
-    ap (heard_from chip) (map-range_with_len_more own_answer start count output at) ∙ map-append (heard_byte chip) (map own_answer (range_with_len start count)) (own_answer output ∷ [])
+    ap (heard_from chip) (map-range_with_len_more own_answer start count output at) ∙ map-append (heard_byte chip) (map own_answer (range_with_len start count))
+    (own_answer output ∷ [])
 
 -- all parts
 pub in_parts : (w0 w1 w2 w3 a b c : List Passing) → w1 ≡ w0 ++ a → w2 ≡ w1 ++ b → w3 ≡ w2 ++ c → w3 ≡ w0 ++ (a ++ (b ++ c))

@@ -26,5 +26,6 @@ replies_tell wiring pairs switch replies are agree =
     rw settled (record {
       ready = refl;
       feeds = λ output known.
-          one_report (map.get switch.sources output) (map.get (switch_of wiring pairs).sources output) (get_or replies output 0) (all_report switch output replies known are) (agree output known);
+          one_report (map.get switch.sources output) (map.get (switch_of wiring pairs).sources output) (get_or replies output 0)
+          (all_report switch output replies known are) (agree output known);
     })

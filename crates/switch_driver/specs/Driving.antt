@@ -1,7 +1,8 @@
 -- What passes while the settings of a schedule are put on the switches of a rack, and what is told
 -- meanwhile. The order is this project's choice: a setting is told where all outputs have replied
 -- as it calls for, and not before, and where nothing that could change one was sent since.
-use Rattle.std.specs.Prelude.{◌≡◌, ◌<◌, ◌≤◌, ◌+◌, ℕ, zero, suc, List, length, Option, Some, None, Ok, Err}
+use Rattle.std.specs.Prelude.{◌≡◌, ◌<◌, ◌≤◌, ◌+◌, ℕ, zero, suc, List, length, Option, Some, None}
+use Rattle.std.specs.Prelude.{Ok, Err}
 use Rattle.batch.specs.declared.transfer.Transfer.{Transfer}
 use Rattle.crossbar.specs.declared.port.ConfigPort.{Ghosts}
 use Rattle.crossbar.specs.declared.traffic.Passing.{Passing}
@@ -14,7 +15,8 @@ use Rattle.switch_settings.specs.declared.rack_wiring.RackWiring.{RackWiring}
 use Rattle.switch_driver.specs.Hearings.{Hearing}
 use Rattle.switch_driver.specs.Steps.{HasStopped, Stands}
 use Rattle.switch_driver.specs.declared.driving.DriveOutcome.{DriveOutcome}
-use Rattle.switch_driver.specs.declared.driving.DriveOutcome.TheVariants.{Completed, Stopped, Halted}
+use Rattle.switch_driver.specs.declared.driving.DriveOutcome.TheVariants.{Completed, Stopped}
+use Rattle.switch_driver.specs.declared.driving.DriveOutcome.TheVariants.{Halted}
 use Rattle.switch_settings.specs.declared.fault.SettingFault.{SettingFault}
 use Rattle.switch_driver.specs.declared.drive_observer.Halt.{Halt}
 

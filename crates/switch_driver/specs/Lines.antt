@@ -1,6 +1,7 @@
 -- What is told of a setting that stands, and what is waited for. The texts are this project's
 -- choice.
-use Rattle.std.specs.Prelude.{◌≡◌, ◌≢◌, ℕ, Bool, true, false, IsTrue, List, [], ◌∷◌, ◌++◌, codes, All, Option, Result, Ok, Err}
+use Rattle.std.specs.Prelude.{◌≡◌, ◌≢◌, ℕ, Bool, true, false, IsTrue, List, [], ◌∷◌, ◌++◌, codes}
+use Rattle.std.specs.Prelude.{All, Option, Result, Ok, Err}
 use Rattle.std.specs.Fmt.{decimal}
 use Rattle.std.specs.List.{flat_map}
 use Rattle.std.specs.Io.KnownBytes.{Appends, Consumes, IsAtEnd}
@@ -34,8 +35,8 @@ pub record HasWaitedInVain (input_before input_after : Option (List ℕ)) : Type
   pub none : All (λ b. b ≢ 10) came
 
 -- The line of a setting was told, and where one was waited for, a line was read, or the input
--- ended, or couldn't be read; or not all of the line could be told, and nothing was read. It is told
--- over the same loan.
+-- ended, or couldn't be read; or not all of the line could be told, and nothing was read. It is
+-- told over the same loan.
 abbrev pub HasToldLine : {I O : Type 0} → (I → Option (List ℕ)) → (O → Option (List ℕ)) → ℕ → List ℕ
     → Result (Unit {0}) Halt → LineObserver I O → LineObserver I O → Type 0
 HasToldLine {I} {O} remaining contents setting numbers (Ok done) old new =
@@ -68,8 +69,8 @@ pub record Dialogue : Type 0 where
   pub left : Option (List ℕ)
 
 -- What becomes of that where the line of a setting is told: it stands after the others, and where
--- one is waited for, a line was read, or the input ended, or couldn't be read; or, where it couldn't
--- be told, a front of it stands there, and nothing was read.
+-- one is waited for, a line was read, or the input ended, or couldn't be read; or, where it
+-- couldn't be told, a front of it stands there, and nothing was read.
 abbrev pub TellsLine : Bool → Dialogue → ℕ → List ℕ → Result (Unit {0}) Halt → Dialogue → Type 0
 TellsLine waits old setting numbers (Ok done) new =
     (new.told ≡ old.told ++ driven_line setting numbers)

@@ -9,7 +9,8 @@ use Rattle.crossbar.specs.declared.chip.Wiring.TheVariants.{Board}
 use Rattle.crossbar.specs.declared.pair.Pair.{Pair}
 use Rattle.crossbar.specs.declared.switch.TheConstants.{JOINED_MODULES}
 use Rattle.crossbar.specs.declared.traffic.Passing.{Passing}
-use Rattle.switch_settings.specs.Asking.{AreDone, BreakOff, Step, asked_steps, each, settle, wirings}
+use Rattle.switch_settings.specs.Asking.{AreDone, BreakOff, Step, asked_steps, each, settle}
+use Rattle.switch_settings.specs.Asking.{wirings}
 use Rattle.switch_settings.specs.declared.fault.SettingFault.{SettingFault}
 use Rattle.switch_settings.specs.declared.rack_wiring.RackWiring.{RackWiring}
 use Rattle.switch_settings.specs.declared.rack_wiring.RackWiring.TheVariants.{Usual, Own}

@@ -15,7 +15,7 @@ pub enum Halt {
     Untold,
 }
 
-/// Whoever is told that a setting stands, and says when the next one may come.
+/// Who is called for each setting that stands, and says when the next one may come.
 pub trait DriveObserver {
     // What becomes of it where it is told that a setting stands, and what it says.
     ghost hears: { Hearing Self };

@@ -27,7 +27,7 @@ pub enum DriveOutcome {
 
 /// Puts the settings of a schedule on the switches of a rack that is wired so, one after another,
 /// from the first one on that is named, which is set whatever the switches are. Each is sent, all
-/// outputs are asked, and where they reply as the setting calls for, the stage is told that it
+/// outputs are asked, and where they reply as the setting calls for, the observer is called: it
 /// stands. Where a setting joins the pairs that stand already, nothing is sent, and nothing asked.
 ///
 /// The modules that the batch names have to be wired, at most 32, and the port has to tell what

@@ -1,4 +1,4 @@
-//! The stage that tells lines.
+//! The observer that prints lines.
 
 ghost use Rattle.std.specs.Prelude.{◌≡◌, ◌≤◌, length, IfOk, OnErr};
 ghost use Rattle.batch.specs.declared.limits.TheConstants.{MAX_MODULES};
@@ -10,8 +10,8 @@ use line_words::Line;
 use std::io;
 use std::io::{ErrorKind, Read, Write};
 
-/// A stage that tells each setting that stands by a line `setting K T T ..`, flushed, and then
-/// waits for a line, if it is to. Where the input has ended, no setting is wanted any more.
+/// An observer that prints a line `setting K T T ..` for each setting that stands, flushes it, and
+/// then waits for a line, if it is to. Where the input has ended, no setting is wanted any more.
 #[derive(Drop)]
 pub struct LineObserver<'a, I, O> {
     input: &'a mut I,

@@ -3,11 +3,12 @@
 ghost use Rattle.std.specs.Prelude.{◌≡◌, ◌+◌, Some, length, IsTrue, false, OnOk, OnErr};
 ghost use Rattle.crossbar.specs.Port.{IsConversation};
 ghost use Rattle.crossbar.specs.Traffic.{HaveConversed, BreaksOff};
-ghost use Rattle.switch_driver.specs.Ports.{PortCameUp, HasTried, IsUpOnce, LineCarries, fresh_port};
+ghost use Rattle.switch_driver.specs.Ports.{PortCameUp, HasTried, IsUpOnce, LineCarries};
+ghost use Rattle.switch_driver.specs.Ports.{fresh_port};
 ghost use Rattle.switch_driver.specs.Streams.{HasPassed};
 
-use crate::switch_start::start_switch;
 use crate::stream::{StreamFault, SwitchStream, converse};
+use crate::switch_start::start_switch;
 use byte_streams::FailureCount;
 use crossbar::{Chip, ConfigPort, PortFault, Traffic};
 use std::io;

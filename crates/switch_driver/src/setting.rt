@@ -1,6 +1,7 @@
 //! A drive puts a setting on the switches of a rack, and asks them whether they stand so.
 
-ghost use Rattle.std.specs.Prelude.{◌≡◌, ◌≢◌, ◌≤◌, ◌<◌, ◌∷◌, ◌↔◌, [], Some, IsTrue, true, length, OnOk, OnErr, IfOk, IfErr};
+ghost use Rattle.std.specs.Prelude.{◌≡◌, ◌≢◌, ◌≤◌, ◌<◌, ◌∷◌, ◌↔◌, [], Some, IsTrue, true, length};
+ghost use Rattle.std.specs.Prelude.{OnOk, OnErr, IfOk, IfErr};
 ghost use Rattle.std.specs.Option.{option_to_list};
 ghost use Rattle.std.specs.FinMap as map;
 ghost use Rattle.c004_commands.specs.Answers.{answer_byte};
@@ -10,15 +11,19 @@ ghost use Rattle.crossbar.specs.Pairs.{ArePairs, room_of, switch_of};
 ghost use Rattle.crossbar.specs.Switch.{after, answer, enquiries};
 ghost use Rattle.crossbar.specs.Traffic.{Passes, PassesFront, conversed};
 ghost use Rattle.crossbar.specs.declared.chip.Chip.TheVariants.{A};
-ghost use Rattle.switch_settings.specs.Answers.{AllAgree, AreBothSet, AreBothStanding, IsSettingFault, IsStandingAt};
-ghost use Rattle.switch_settings.specs.Asking.{AreDone, BreakOff, HasReplied, IsUnanswered, wirings};
+ghost use Rattle.switch_settings.specs.Answers.{AllAgree, AreBothSet, AreBothStanding};
+ghost use Rattle.switch_settings.specs.Answers.{IsSettingFault, IsStandingAt};
+ghost use Rattle.switch_settings.specs.Asking.{AreDone, BreakOff, HasReplied, IsUnanswered};
+ghost use Rattle.switch_settings.specs.Asking.{wirings};
 ghost use Rattle.switch_settings.specs.RackWirings.{AreSetIn, AreStandingIn, wired_in};
 ghost use Rattle.switch_settings.specs.declared.fault.SettingFault.TheVariants.{Port};
 ghost use Rattle.switch_driver.specs.Steps.{HasStopped, Stands, settled_steps};
 
 use c004_commands::{Command, LONGEST_COMMAND, PORTS, PortNo, write};
 use crossbar::{Chip, ConfigPort, JOINED_MODULES, Pair, PortFault, Wiring};
-use switch_settings::{PairList, RackWiring, SettingFault, judge, port_of, send_setting, wanted_switch};
+use switch_settings::{
+    PairList, RackWiring, SettingFault, judge, port_of, send_setting, wanted_switch,
+};
 
 /// Sets the switches of a rack to the pairs, from the pairs that stand if they are known, and asks
 /// all outputs whether they are so set. Each reply is judged as it comes. Then the switches are

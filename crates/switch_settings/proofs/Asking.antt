@@ -33,16 +33,19 @@ ok_if (Err e) f done = tt
 
 -- ---- the output that disagrees
 
-numbered : (found : Disagreement) (chip : Chip) (switch : Switch) (replies : List ℕ) → Disagrees found chip switch replies → (number_of found ≡ first_output chip + found.output) × (found.output < PORTS)
+numbered : (found : Disagreement) (chip : Chip) (switch : Switch) (replies : List ℕ) → Disagrees found chip switch replies
+    → (number_of found ≡ first_output chip + found.output) × (found.output < PORTS)
 numbered found chip switch replies d = (ap (λ (f : Disagreement). first_output f.chip + found.output) d.0, d.1.known)
 
-some_output : (wide : Bool) (found : Disagreement) (standing : Option (List Pair)) (pairs : List Pair) (old new : Option (List Passing)) → HasPassedFor wide (Disagreed found) standing pairs old new → (number_of found < PORTS) ⊎ ((wide ≡ true) × (number_of found < 2 * PORTS))
+some_output : (wide : Bool) (found : Disagreement) (standing : Option (List Pair)) (pairs : List Pair) (old new : Option (List Passing))
+    → HasPassedFor wide (Disagreed found) standing pairs old new → (number_of found < PORTS) ⊎ ((wide ≡ true) × (number_of found < 2 * PORTS))
 some_output false found standing pairs old new h = let n = numbered found A _ _ h.2.1.are in inl (omega (arith, n.0, n.1))
 some_output true found standing pairs old new (inl h) = let n = numbered found A _ _ h.2.2.1.are in inl (omega (arith, n.0, n.1))
 some_output true found standing pairs old new (inr h) = let n = numbered found B _ _ h.2.2.2.1.are in inr (refl, omega (arith, n.0, n.1))
 
 -- a rack of so many modules has it
-pub known_output : (modules : ℕ) (found : Disagreement) (standing : Option (List Pair)) (pairs : List Pair) (old new : Option (List Passing)) → HavePassedFor modules (Disagreed found) standing pairs old new → HasOutput modules (number_of found)
+pub known_output : (modules : ℕ) (found : Disagreement) (standing : Option (List Pair)) (pairs : List Pair) (old new : Option (List Passing))
+    → HavePassedFor modules (Disagreed found) standing pairs old new → HasOutput modules (number_of found)
 known_output modules found standing pairs old new h = elim (some_output (nat_lt JOINED_MODULES modules) found standing pairs old new h) [
   | inl low ↦ inl low
   | inr high ↦ (let wide : nat_lt JOINED_MODULES modules ≡ true = high.0 in let two : JOINED_MODULES < modules = grind (arith, nat_tests) in inr (two, high.1))

@@ -9,7 +9,12 @@ use Rattle.link_graph.proofs.Sums.{hit, hit_same, hit_other}
 
 none_above : (u a n : ℕ) → u < a → sum_by (λ t. hit t u) (range_with_len a n) ≡ 0
 none_above u a zero h = refl
-none_above u a (suc n) h = omega (arith, sum_by-cons (λ t. hit t u) a (range_with_len (a + 1) n), hit_other a u (λ e. omega arith), none_above u (a + 1) n (omega arith))
+none_above u a (suc n) h = omega (
+  arith,
+  sum_by-cons (λ t. hit t u) a (range_with_len (a + 1) n),
+  hit_other a u (λ e. omega arith),
+  none_above u (a + 1) n (omega arith),
+)
 
 counted_once : (u a n : ℕ) → a ≤ u → u < a + n → sum_by (λ t. hit t u) (range_with_len a n) ≡ 1
 counted_once u a zero low high = absurd (omega arith)

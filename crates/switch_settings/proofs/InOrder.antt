@@ -22,7 +22,8 @@ none_started [] m none = refl
 none_started (p ∷ ps) m none = rw (ne_eqb p.initiator m (none p (inl refl))) (none_started ps m (λ q i. none q (inr i)))
 
 -- of a setting's pairs a module starts one at most
-one_started : (batch : List Transfer) (ts : List ℕ) (p : Pair) → All (λ u. u < length batch) ts → IsMatching batch ts → In p (setting_pairs batch ts) → started_by (setting_pairs batch ts) p.initiator ≡ p ∷ []
+one_started : (batch : List Transfer) (ts : List ℕ) (p : Pair) → All (λ u. u < length batch) ts → IsMatching batch ts → In p (setting_pairs batch ts)
+    → started_by (setting_pairs batch ts) p.initiator ≡ p ∷ []
 one_started batch [] p k m i = absurd i
 one_started batch (t ∷ ts) p k m i =
     let known = All-head (λ u. u < length batch) t ts k in
@@ -32,10 +33,13 @@ one_started batch (t ∷ ts) p k m i =
     let others = setting_pairs batch ts in
     elim i [
       | inl here ↦
-          let none : started_by others first.initiator ≡ [] = none_started others first.initiator (λ q j e. no_initiator batch t ts q known rest apart j (sym e)) in
-          subst (λ (x : Pair). started_by (first ∷ others) x.initiator ≡ x ∷ []) here (rw (eq-eqb first.initiator first.initiator refl) (ap (λ (l : List Pair). first ∷ l) none))
+          let none : started_by others first.initiator ≡ [] =
+          none_started others first.initiator (λ q j e. no_initiator batch t ts q known rest apart j (sym e)) in
+          subst (λ (x : Pair). started_by (first ∷ others) x.initiator ≡ x ∷ []) here
+          (rw (eq-eqb first.initiator first.initiator refl) (ap (λ (l : List Pair). first ∷ l) none))
       | inr more ↦
-          rw (ne_eqb first.initiator p.initiator (λ e. no_initiator batch t ts p known rest apart more e)) (one_started batch ts p rest (later (AreApart batch) t ts m) more)
+          rw (ne_eqb first.initiator p.initiator (λ e. no_initiator batch t ts p known rest apart more e))
+          (one_started batch ts p rest (later (AreApart batch) t ts m) more)
     ]
 
 -- the pair of a table's entry, where it has one
@@ -44,7 +48,8 @@ entry_pairs m None = []
 entry_pairs m (Some r) = joined m r ∷ []
 
 -- a table's entry is the pair that the module starts
-entry_is : (batch : List Transfer) (ts : List ℕ) (table : List (Option ℕ)) → IsTableOf batch ts table → All (λ u. u < length batch) ts → IsMatching batch ts → (i : ℕ) (o : Option ℕ)
+entry_is : (batch : List Transfer) (ts : List ℕ) (table : List (Option ℕ)) → IsTableOf batch ts table → All (λ u. u < length batch) ts → IsMatching batch ts
+    → (i : ℕ) (o : Option ℕ)
     → get_or table i None ≡ o → started_by (setting_pairs batch ts) i ≡ entry_pairs i o
 entry_is batch ts table is k m i None at =
     none_started (setting_pairs batch ts) i
@@ -55,7 +60,8 @@ entry_is batch ts table is k m i None at =
 entry_is batch ts table is k m i (Some r) at = one_started batch ts (joined i r) k m (is.sound i r at)
 
 -- the pairs of a table, module by module
-by_module : (f : ℕ → List Pair) (m : ℕ) (table : List (Option ℕ)) → ((i j : ℕ) → j < length table → i ≡ m + j → f i ≡ entry_pairs i (get_or table j None)) → table_pairs m table ≡ flat_map f (range_with_len m (length table))
+by_module : (f : ℕ → List Pair) (m : ℕ) (table : List (Option ℕ)) → ((i j : ℕ) → j < length table → i ≡ m + j → f i ≡ entry_pairs i (get_or table j None))
+    → table_pairs m table ≡ flat_map f (range_with_len m (length table))
 by_module f m [] each = refl
 by_module f m (None ∷ table) each =
     let first : f m ≡ [] = each m 0 (omega arith) (omega arith) in
@@ -67,7 +73,8 @@ by_module f m (Some v ∷ table) each =
     ∙ ap (λ (l : List Pair). l ++ flat_map f (range_with_len (m + 1) (length table))) (sym first)
 
 -- the pairs of a table of a setting are the setting's, in order
-pub table_in_order : (batch : List Transfer) (ts : List ℕ) (table : List (Option ℕ)) → IsTableOf batch ts table → All (λ u. u < length batch) ts → IsMatching batch ts → table_pairs 0 table ≡ in_order (setting_pairs batch ts)
+pub table_in_order : (batch : List Transfer) (ts : List ℕ) (table : List (Option ℕ)) → IsTableOf batch ts table → All (λ u. u < length batch) ts
+    → IsMatching batch ts → table_pairs 0 table ≡ in_order (setting_pairs batch ts)
 unfolding in_order
 table_in_order batch ts table is k m =
     let f = started_by (setting_pairs batch ts) in

@@ -1,5 +1,6 @@
 -- The pairs of a setting: as the list of its transfers, and as a table by initiators.
-use Rattle.std.proofs.Common.{◌≡◌, ◌≢◌, ◌<◌, ◌≤◌, ◌+◌, ◌⊎◌, inl, inr, ℕ, Bool, true, false, cond, zero, suc, List, [], ◌∷◌, ◌++◌, map, length, take, get_or, set, replicate, length-set, refl, sym, ap, ap₂, ◌∙◌, subst, arith, Option, Some, None, get_or-set_same, get_or-set_other}
+use Rattle.std.proofs.Common.{◌≡◌, ◌≢◌, ◌<◌, ◌≤◌, ◌+◌, ◌⊎◌, inl, inr, ℕ, Bool, true, false, cond, zero, suc, List, [], ◌∷◌, ◌++◌, map, length, take, get_or, set, replicate, length-set, refl, sym, ap}
+use Rattle.std.proofs.Common.{ap₂, ◌∙◌, subst, arith, Option, Some, None, get_or-set_same, get_or-set_other}
 use Rattle.std.specs.Prelude.{All}
 use Rattle.std.specs.Ordering.{nat_cmp}
 use Rattle.std.specs.Cmp.{nat_cmp_total}
@@ -120,7 +121,8 @@ found_in w (p ∷ ps) o v e = elim (find nat_cmp o (ends w p)) as (λ r. find na
 ] refl
 
 -- pairs that agree on an output give it what one of them does
-in_found : (w : Wiring) (ps : List Pair) (o v : ℕ) (p : Pair) → In p ps → Gives w p o v → ((q : Pair) (x : ℕ) → In q ps → Gives w q o x → x ≡ v) → found w ps o ≡ Some v
+in_found : (w : Wiring) (ps : List Pair) (o v : ℕ) (p : Pair) → In p ps → Gives w p o v → ((q : Pair) (x : ℕ) → In q ps → Gives w q o x → x ≡ v) → found w ps o
+    ≡ Some v
 in_found w [] o v p i h one = absurd i
 in_found w (q ∷ qs) o v p i h one = elim (find nat_cmp o (ends w q)) as (λ r. find nat_cmp o (ends w q) ≡ r → found w (q ∷ qs) o ≡ Some v) [
   | Some x ↦ λ some. found_more w q qs o ∙ ap (λ y. option_or y (found w qs o)) some ∙ ap (λ (y : ℕ). Some y) (one q x (inl refl) (own_gives w q o x some))
@@ -136,7 +138,8 @@ pub record AreJoinable (modules : ℕ) (ps : List Pair) : Type 0 where
   pub one_responder : (p q : Pair) → In p ps → In q ps → p.initiator ≡ q.initiator → p.responder ≡ q.responder
   pub one_initiator : (p q : Pair) → In p ps → In q ps → p.responder ≡ q.responder → p.initiator ≡ q.initiator
 
-one_given : (w : Wiring) (m : ℕ) (ps : List Pair) (o v x : ℕ) (p q : Pair) → m ≤ room_of w → AreJoinable m ps → In p ps → In q ps → Gives w p o v → Gives w q o x → x ≡ v
+one_given : (w : Wiring) (m : ℕ) (ps : List Pair) (o v x : ℕ) (p q : Pair) → m ≤ room_of w → AreJoinable m ps → In p ps → In q ps → Gives w p o v
+    → Gives w q o x → x ≡ v
 one_given Both m ps o v x p q fits a i j g h = elim g [
   | inl y ↦ elim h [
     | inl z ↦ omega (arith, y.0, y.1, z.0, z.1, a.one_responder p q i j (sym y.0 ∙ z.0))
@@ -169,20 +172,26 @@ one_given (Board w) m ps o v x p q fits a i j g h =
       ]
     ]
 
-same_found : (w : Wiring) (m : ℕ) (ps qs : List Pair) (o : ℕ) → m ≤ room_of w → AreJoinable m ps → AreJoinable m qs → ((p : Pair) → In p ps → In p qs) → ((p : Pair) → In p qs → In p ps) → found w ps o ≡ found w qs o
+same_found : (w : Wiring) (m : ℕ) (ps qs : List Pair) (o : ℕ) → m ≤ room_of w → AreJoinable m ps → AreJoinable m qs → ((p : Pair) → In p ps → In p qs)
+    → ((p : Pair) → In p qs → In p ps) → found w ps o ≡ found w qs o
 same_found w m ps qs o fits a b to from = elim (found w ps o) as (λ r. found w ps o ≡ r → r ≡ found w qs o) [
   | None ↦ λ e. elim (found w qs o) as (λ r. found w qs o ≡ r → None ≡ r) [
     | None ↦ λ f. refl
-    | Some y ↦ λ f. let x = found_in w qs o y f in sym e ∙ in_found w ps o y x.0 (from x.0 x.1) x.2 (λ q v i g. one_given w m ps o y v x.0 q fits a (from x.0 x.1) i x.2 g)
+    | Some y ↦ λ f. let x = found_in w qs o y f in sym e ∙ in_found w ps o y x.0 (from x.0 x.1) x.2
+        (λ q v i g. one_given w m ps o y v x.0 q fits a (from x.0 x.1) i x.2 g)
   ] refl
-  | Some v ↦ λ e. let x = found_in w ps o v e in sym (in_found w qs o v x.0 (to x.0 x.1) x.2 (λ q y i g. one_given w m qs o v y x.0 q fits b (to x.0 x.1) i x.2 g))
+  | Some v ↦ λ e. let x =
+      found_in w ps o v e in sym (in_found w qs o v x.0 (to x.0 x.1) x.2 (λ q y i g. one_given w m qs o v y x.0 q fits b (to x.0 x.1) i x.2 g))
 ] refl
 
 -- pairs in another order join the same
-pub same_switch : (w : Wiring) (m : ℕ) (ps qs : List Pair) → m ≤ room_of w → AreJoinable m ps → AreJoinable m qs → ((p : Pair) → In p ps → In p qs) → ((p : Pair) → In p qs → In p ps) → switch_of w ps ≡ switch_of w qs
+pub same_switch : (w : Wiring) (m : ℕ) (ps qs : List Pair) → m ≤ room_of w → AreJoinable m ps → AreJoinable m qs → ((p : Pair) → In p ps → In p qs)
+    → ((p : Pair) → In p qs → In p ps) → switch_of w ps ≡ switch_of w qs
 unfolding found
 same_switch w m ps qs fits a b to from =
-    ap (λ (m : Sources). record { sources = m; ready = true }) (same_sources _ _ (λ o. get-from_entries nat_cmp_total (flat_map (ends w) ps) o ∙ same_found w m ps qs o fits a b to from ∙ sym (get-from_entries nat_cmp_total (flat_map (ends w) qs) o)))
+    ap (λ (m : Sources). record { sources = m; ready = true })
+    (same_sources _ _ (λ o. get-from_entries nat_cmp_total (flat_map (ends w) ps) o ∙ same_found w m ps qs o fits a b to from
+    ∙ sym (get-from_entries nat_cmp_total (flat_map (ends w) qs) o)))
 
 -- ---- the pairs of a setting
 
@@ -198,32 +207,37 @@ same_answer : (x y : Transfer) → x.responder ≡ y.responder → answer_link x
 same_answer x y e = ap (λ (m : ℕ). answer_link (record { kind = x.kind; initiator = 0; own_block = 0; responder = m; far_block = 0 })) e
 
 -- a transfer shares no module's link with those of a matching
-pub no_initiator : (batch : List Transfer) (t : ℕ) (us : List ℕ) (q : Pair) → t < length batch → All (λ u. u < length batch) us → All (AreApart batch t) us → In q (setting_pairs batch us) → (transfer_at batch t).initiator ≡ q.initiator → ⊥
+pub no_initiator : (batch : List Transfer) (t : ℕ) (us : List ℕ) (q : Pair) → t < length batch → All (λ u. u < length batch) us → All (AreApart batch t) us
+    → In q (setting_pairs batch us) → (transfer_at batch t).initiator ≡ q.initiator → ⊥
 no_initiator batch t [] q h k a i e = absurd i
 no_initiator batch t (u ∷ us) q h k a i e = elim i [
   | inl here ↦
       let x = transfer_at batch t in
       let y = transfer_at batch u in
       let same : x.initiator ≡ y.initiator = e ∙ sym (ap (λ (p : Pair). p.initiator) here) in
-      (All-head (AreApart batch t) u us a).none_common (start_link x) (x, got_there batch t h, inl refl) (y, got_there batch u (All-head (λ v. v < length batch) u us k), inl (same_start x y same))
+      (All-head (AreApart batch t) u us a).none_common (start_link x) (x, got_there batch t h, inl refl)
+      (y, got_there batch u (All-head (λ v. v < length batch) u us k), inl (same_start x y same))
   | inr more ↦ no_initiator batch t us q h (All-tail (λ v. v < length batch) u us k) (All-tail (AreApart batch t) u us a) more e
 ]
 
-no_responder : (batch : List Transfer) (t : ℕ) (us : List ℕ) (q : Pair) → t < length batch → All (λ u. u < length batch) us → All (AreApart batch t) us → In q (setting_pairs batch us) → (transfer_at batch t).responder ≡ q.responder → ⊥
+no_responder : (batch : List Transfer) (t : ℕ) (us : List ℕ) (q : Pair) → t < length batch → All (λ u. u < length batch) us → All (AreApart batch t) us
+    → In q (setting_pairs batch us) → (transfer_at batch t).responder ≡ q.responder → ⊥
 no_responder batch t [] q h k a i e = absurd i
 no_responder batch t (u ∷ us) q h k a i e = elim i [
   | inl here ↦
       let x = transfer_at batch t in
       let y = transfer_at batch u in
       let same : x.responder ≡ y.responder = e ∙ sym (ap (λ (p : Pair). p.responder) here) in
-      (All-head (AreApart batch t) u us a).none_common (answer_link x) (x, got_there batch t h, inr refl) (y, got_there batch u (All-head (λ v. v < length batch) u us k), inr (same_answer x y same))
+      (All-head (AreApart batch t) u us a).none_common (answer_link x) (x, got_there batch t h, inr refl)
+      (y, got_there batch u (All-head (λ v. v < length batch) u us k), inr (same_answer x y same))
   | inr more ↦ no_responder batch t us q h (All-tail (λ v. v < length batch) u us k) (All-tail (AreApart batch t) u us a) more e
 ]
 
 within_at : (batch : List Transfer) (t : ℕ) → IsBatch batch → t < length batch → IsWithin widest (transfer_at batch t)
 within_at batch t b h = b.within t _ h
 
-one_responder : (batch : List Transfer) (ts : List ℕ) (p q : Pair) → All (λ u. u < length batch) ts → IsMatching batch ts → In p (setting_pairs batch ts) → In q (setting_pairs batch ts) → p.initiator ≡ q.initiator → p.responder ≡ q.responder
+one_responder : (batch : List Transfer) (ts : List ℕ) (p q : Pair) → All (λ u. u < length batch) ts → IsMatching batch ts → In p (setting_pairs batch ts)
+    → In q (setting_pairs batch ts) → p.initiator ≡ q.initiator → p.responder ≡ q.responder
 one_responder batch [] p q k m i j e = absurd i
 one_responder batch (t ∷ ts) p q k m i j e =
     let known = All-head (λ u. u < length batch) t ts k in
@@ -240,7 +254,8 @@ one_responder batch (t ∷ ts) p q k m i j e =
       ]
     ]
 
-one_initiator : (batch : List Transfer) (ts : List ℕ) (p q : Pair) → All (λ u. u < length batch) ts → IsMatching batch ts → In p (setting_pairs batch ts) → In q (setting_pairs batch ts) → p.responder ≡ q.responder → p.initiator ≡ q.initiator
+one_initiator : (batch : List Transfer) (ts : List ℕ) (p q : Pair) → All (λ u. u < length batch) ts → IsMatching batch ts → In p (setting_pairs batch ts)
+    → In q (setting_pairs batch ts) → p.responder ≡ q.responder → p.initiator ≡ q.initiator
 one_initiator batch [] p q k m i j e = absurd i
 one_initiator batch (t ∷ ts) p q k m i j e =
     let known = All-head (λ u. u < length batch) t ts k in
@@ -260,14 +275,16 @@ one_initiator batch (t ∷ ts) p q k m i j e =
 names_within : (batch : List Transfer) → IsBatch batch → HasModulesOf MAX_MODULES batch
 names_within batch b t h = (within_at batch t b h).0
 
-low_pairs : (m : ℕ) (batch : List Transfer) (ts : List ℕ) (p : Pair) → HasModulesOf m batch → All (λ u. u < length batch) ts → In p (setting_pairs batch ts) → (p.initiator < m) × (p.responder < m)
+low_pairs : (m : ℕ) (batch : List Transfer) (ts : List ℕ) (p : Pair) → HasModulesOf m batch → All (λ u. u < length batch) ts → In p (setting_pairs batch ts)
+    → (p.initiator < m) × (p.responder < m)
 low_pairs m batch [] p b k i = absurd i
 low_pairs m batch (t ∷ ts) p b k i = elim i [
   | inl e ↦ subst (λ (x : Pair). (x.initiator < m) × (x.responder < m)) e (b t (All-head (λ u. u < length batch) t ts k))
   | inr more ↦ low_pairs m batch ts p b (All-tail (λ u. u < length batch) t ts k) more
 ]
 
-setting_joinable : (m : ℕ) (batch : List Transfer) (ts : List ℕ) → HasModulesOf m batch → All (λ u. u < length batch) ts → IsMatching batch ts → AreJoinable m (setting_pairs batch ts)
+setting_joinable : (m : ℕ) (batch : List Transfer) (ts : List ℕ) → HasModulesOf m batch → All (λ u. u < length batch) ts → IsMatching batch ts
+    → AreJoinable m (setting_pairs batch ts)
 setting_joinable m batch ts fits k matching = record {
   low = λ p i. low_pairs m batch ts p fits k i;
   one_responder = λ p q i j e. one_responder batch ts p q k matching i j e;
@@ -293,7 +310,8 @@ push_in (x ∷ xs) p q i = elim i [
   | inr e ↦ inr (push_in xs p q (inr e))
 ]
 
-pairs_push : (batch : List Transfer) (ts : List ℕ) (t : ℕ) → setting_pairs batch (ts ++ t ∷ []) ≡ setting_pairs batch ts ++ joined_pair (transfer_at batch t) ∷ []
+pairs_push : (batch : List Transfer) (ts : List ℕ) (t : ℕ) → setting_pairs batch (ts ++ t ∷ []) ≡ setting_pairs batch ts ++ joined_pair (transfer_at batch t) ∷
+    []
 pairs_push batch [] t = refl
 pairs_push batch (u ∷ ts) t = ap (λ (x : List Pair). joined_pair (transfer_at batch u) ∷ x) (pairs_push batch ts t)
 
@@ -304,12 +322,15 @@ in_front batch (t ∷ ts) zero p i = absurd i
 in_front batch (t ∷ ts) (suc k) p i = elim i [ inl e ↦ inl e | inr more ↦ inr (in_front batch ts k p more) ]
 
 -- one transfer more
-pub table_more : (batch : List Transfer) (ts : List ℕ) (k t : ℕ) (table : List (Option ℕ)) (x : Transfer) → IsBatch batch → All (λ u. u < length batch) ts → IsMatching batch ts → k < length ts → get_or ts k 0 ≡ t → transfer_at batch t ≡ x
+pub table_more : (batch : List Transfer) (ts : List ℕ) (k t : ℕ) (table : List (Option ℕ)) (x : Transfer) → IsBatch batch → All (λ u. u < length batch) ts
+    → IsMatching batch ts → k < length ts → get_or ts k 0 ≡ t → transfer_at batch t ≡ x
     → IsTableOf batch (take k ts) table → IsTableOf batch (take (k + 1) ts) (set table x.initiator (Some x.responder))
 table_more batch ts k t table x b known matching h et ex is =
     let p = joined_pair x in
     let now : setting_pairs batch (take (k + 1) ts) ≡ setting_pairs batch (take k ts) ++ p ∷ [] =
-    ap (setting_pairs batch) (take_more ts k 0 h) ∙ pairs_push batch (take k ts) (get_or ts k 0) ∙ ap (λ (u : ℕ). setting_pairs batch (take k ts) ++ joined_pair (transfer_at batch u) ∷ []) et ∙ ap (λ (y : Transfer). setting_pairs batch (take k ts) ++ joined_pair y ∷ []) ex in
+    ap (setting_pairs batch) (take_more ts k 0 h) ∙ pairs_push batch (take k ts) (get_or ts k 0)
+    ∙ ap (λ (u : ℕ). setting_pairs batch (take k ts) ++ joined_pair (transfer_at batch u) ∷ []) et
+    ∙ ap (λ (y : Transfer). setting_pairs batch (take k ts) ++ joined_pair y ∷ []) ex in
     let last : In p (setting_pairs batch (take (k + 1) ts)) = subst (In p) (sym now) (push_in (setting_pairs batch (take k ts)) p p (inr refl)) in
     let low : x.initiator < MAX_MODULES = (low_pairs MAX_MODULES batch ts p (names_within batch b) known (in_front batch ts (k + 1) p last)).0 in
     let room : x.initiator < length table = omega (arith, is.size) in
@@ -317,7 +338,8 @@ table_more batch ts k t table x b known matching h et ex is =
       size = length-set table x.initiator (Some x.responder) ∙ is.size;
       sound = λ i r e. elim (cases_eq i x.initiator) [
         | inl same ↦
-            let at : get_or (set table x.initiator (Some x.responder)) i None ≡ Some x.responder = ap (λ (j : ℕ). get_or (set table x.initiator (Some x.responder)) j None) same ∙ (rw get_or-set_same) in
+            let at : get_or (set table x.initiator (Some x.responder)) i None ≡ Some x.responder =
+            ap (λ (j : ℕ). get_or (set table x.initiator (Some x.responder)) j None) same ∙ (rw get_or-set_same) in
             let r_is : x.responder ≡ r = same_Some x.responder r (sym at ∙ e) in
             subst (In (joined i r)) (sym now) (push_in (setting_pairs batch (take k ts)) (joined i r) p (inr (ap₂ (λ (a b : ℕ). joined a b) (sym same) r_is)))
         | inr other ↦
@@ -338,7 +360,8 @@ table_more batch ts k t table x b known matching h et ex is =
     }
 
 -- a pair of the table, by its position
-table_in : (m : ℕ) (table : List (Option ℕ)) (p : Pair) → In p (table_pairs m table) → (j : ℕ) × (p.initiator ≡ m + j) × (get_or table j None ≡ Some p.responder)
+table_in : (m : ℕ) (table : List (Option ℕ)) (p : Pair) → In p (table_pairs m table) → (j : ℕ) × (p.initiator ≡ m + j)
+    × (get_or table j None ≡ Some p.responder)
 table_in m [] p i = absurd i
 table_in m (None ∷ table) p i = let r = table_in (m + 1) table p i in (suc r.0, omega (arith, r.1), r.2)
 table_in m (Some v ∷ table) p i = elim i [
@@ -374,7 +397,8 @@ ascending n m (Some v ∷ table) a =
       low.0,
       low.1,
       all_above m (m + 1) table (omega arith),
-      all_in (λ q. v ≢ q.responder) rest (λ q i e. (let same = a.one_initiator first q (inl refl) (inr i) e in let r = table_in (m + 1) table q i in omega (arith, same, r.1))),
+      all_in (λ q. v ≢ q.responder) rest
+          (λ q i e. (let same = a.one_initiator first q (inl refl) (inr i) e in let r = table_in (m + 1) table q i in omega (arith, same, r.1))),
       ascending n (m + 1) table (record {
         low = λ p i. a.low p (inr i);
         one_responder = λ p q i j e. a.one_responder p q (inr i) (inr j) e;
@@ -382,16 +406,19 @@ ascending n m (Some v ∷ table) a =
       }),
     )
 
-table_members : (batch : List Transfer) (ts : List ℕ) (table : List (Option ℕ)) (p : Pair) → IsTableOf batch ts table → In p (table_pairs 0 table) → In p (setting_pairs batch ts)
+table_members : (batch : List Transfer) (ts : List ℕ) (table : List (Option ℕ)) (p : Pair) → IsTableOf batch ts table → In p (table_pairs 0 table)
+    → In p (setting_pairs batch ts)
 table_members batch ts table p is i =
     let r = table_in 0 table p i in
     let e : r.0 ≡ p.initiator = omega (arith, r.1) in
     subst (λ (x : ℕ). In (joined x p.responder) (setting_pairs batch ts)) e (is.sound r.0 p.responder r.2)
 
-setting_members : (batch : List Transfer) (ts : List ℕ) (table : List (Option ℕ)) (p : Pair) → IsTableOf batch ts table → In p (setting_pairs batch ts) → In p (table_pairs 0 table)
+setting_members : (batch : List Transfer) (ts : List ℕ) (table : List (Option ℕ)) (p : Pair) → IsTableOf batch ts table → In p (setting_pairs batch ts)
+    → In p (table_pairs 0 table)
 setting_members batch ts table p is i = in_table 0 table p.initiator p.initiator p.responder (omega arith) (is.whole p.initiator p.responder i)
 
-table_joinable : (m : ℕ) (batch : List Transfer) (ts : List ℕ) (table : List (Option ℕ)) → IsTableOf batch ts table → AreJoinable m (setting_pairs batch ts) → AreJoinable m (table_pairs 0 table)
+table_joinable : (m : ℕ) (batch : List Transfer) (ts : List ℕ) (table : List (Option ℕ)) → IsTableOf batch ts table → AreJoinable m (setting_pairs batch ts)
+    → AreJoinable m (table_pairs 0 table)
 table_joinable m batch ts table is a = record {
   low = λ p i. a.low p (table_members batch ts table p is i);
   one_responder = λ p q i j e. a.one_responder p q (table_members batch ts table p is i) (table_members batch ts table q is j) e;
@@ -399,19 +426,23 @@ table_joinable m batch ts table is a = record {
 }
 
 -- in a rack that has the batch's modules, the pairs of a table of a setting are pairs of that rack
-pub table_is_pairs : (m : ℕ) (batch : List Transfer) (ts : List ℕ) (table : List (Option ℕ)) → IsTableOf batch ts table → All (λ u. u < length batch) ts → IsMatching batch ts → HasModulesOf m batch → ArePairs m (table_pairs 0 table)
+pub table_is_pairs : (m : ℕ) (batch : List Transfer) (ts : List ℕ) (table : List (Option ℕ)) → IsTableOf batch ts table → All (λ u. u < length batch) ts
+    → IsMatching batch ts → HasModulesOf m batch → ArePairs m (table_pairs 0 table)
 table_is_pairs m batch ts table is k matching fits =
     ascending m 0 table (table_joinable m batch ts table is (setting_joinable m batch ts fits k matching))
 
 -- and they join what the setting's pairs do
-pub table_is_switch : (m : ℕ) (w : Wiring) (batch : List Transfer) (ts : List ℕ) (table : List (Option ℕ)) → IsTableOf batch ts table → All (λ u. u < length batch) ts → IsMatching batch ts → HasModulesOf m batch → m ≤ room_of w
+pub table_is_switch : (m : ℕ) (w : Wiring) (batch : List Transfer) (ts : List ℕ) (table : List (Option ℕ)) → IsTableOf batch ts table
+    → All (λ u. u < length batch) ts → IsMatching batch ts → HasModulesOf m batch → m ≤ room_of w
     → switch_of w (table_pairs 0 table) ≡ switch_of w (setting_pairs batch ts)
 table_is_switch m w batch ts table is k matching fits room =
     let a = setting_joinable m batch ts fits k matching in
-    same_switch w m (table_pairs 0 table) (setting_pairs batch ts) room (table_joinable m batch ts table is a) a (λ p i. table_members batch ts table p is i) (λ p i. setting_members batch ts table p is i)
+    same_switch w m (table_pairs 0 table) (setting_pairs batch ts) room (table_joinable m batch ts table is a) a (λ p i. table_members batch ts table p is i)
+    (λ p i. setting_members batch ts table p is i)
 
 -- the switches of one list of pairs are those of another that joins the same
-pub same_switches : (m : ℕ) (ps qs : List Pair) (s : Switches) → m ≤ PORTS → ((w : Wiring) → m ≤ room_of w → switch_of w ps ≡ switch_of w qs) → AreSwitchesOf m ps s → AreSwitchesOf m qs s
+pub same_switches : (m : ℕ) (ps qs : List Pair) (s : Switches) → m ≤ PORTS → ((w : Wiring) → m ≤ room_of w → switch_of w ps ≡ switch_of w qs)
+    → AreSwitchesOf m ps s → AreSwitchesOf m qs s
 same_switches m ps qs s few same is = record {
   narrow = λ h. is.narrow h ∙ same Both h;
   wide_a = λ h. is.wide_a h ∙ same Forth few;
@@ -425,7 +456,8 @@ table_none batch (suc n) zero r e = absurd cc
 table_none batch (suc n) (suc i) r e = table_none batch n i r e
 
 -- the pairs of a longer table
-pub table_push : (m : ℕ) (table : List (Option ℕ)) (o : Option ℕ) (n : ℕ) → n ≡ m + length table → table_pairs m (table ++ o ∷ []) ≡ table_pairs m table ++ table_pairs n (o ∷ [])
+pub table_push : (m : ℕ) (table : List (Option ℕ)) (o : Option ℕ) (n : ℕ) → n ≡ m + length table → table_pairs m (table ++ o ∷ []) ≡ table_pairs m table
+    ++ table_pairs n (o ∷ [])
 table_push m [] o n e = let same : m ≡ n = omega arith in ap (λ (x : ℕ). table_pairs x (o ∷ [])) same
 table_push m (None ∷ table) o n e = table_push (m + 1) table o n (omega arith)
 table_push m (Some v ∷ table) o n e = ap (λ (x : List Pair). joined m v ∷ x) (table_push (m + 1) table o n (omega arith))
@@ -455,13 +487,16 @@ initiators batch ts = map (λ t. (transfer_at batch t).initiator) ts
 low_initiators : (batch : List Transfer) (ts : List ℕ) → IsBatch batch → All (λ u. u < length batch) ts → All (λ u. u < MAX_MODULES) (initiators batch ts)
 low_initiators batch [] b k = λ i d l. absurd (omega arith)
 low_initiators batch (t ∷ ts) b k =
-    All-cons (λ u. u < MAX_MODULES) (transfer_at batch t).initiator (initiators batch ts) (within_at batch t b (All-head (λ u. u < length batch) t ts k)).0.0 (low_initiators batch ts b (All-tail (λ u. u < length batch) t ts k))
+    All-cons (λ u. u < MAX_MODULES) (transfer_at batch t).initiator (initiators batch ts) (within_at batch t b (All-head (λ u. u < length batch) t ts k)).0.0
+    (low_initiators batch ts b (All-tail (λ u. u < length batch) t ts k))
 
-other_initiators : (batch : List Transfer) (t : ℕ) (us : List ℕ) → t < length batch → All (λ u. u < length batch) us → All (AreApart batch t) us → All (λ v. (transfer_at batch t).initiator ≢ v) (initiators batch us)
+other_initiators : (batch : List Transfer) (t : ℕ) (us : List ℕ) → t < length batch → All (λ u. u < length batch) us → All (AreApart batch t) us
+    → All (λ v. (transfer_at batch t).initiator ≢ v) (initiators batch us)
 other_initiators batch t [] h k a = λ i d l. absurd (omega arith)
 other_initiators batch t (u ∷ us) h k a =
     All-cons (λ v. (transfer_at batch t).initiator ≢ v) (transfer_at batch u).initiator (initiators batch us)
-    (λ e. no_initiator batch t (u ∷ []) (joined_pair (transfer_at batch u)) h (All-cons (λ v. v < length batch) u [] (All-head (λ v. v < length batch) u us k) (λ i d l. absurd (omega arith)))
+    (λ e. no_initiator batch t (u ∷ []) (joined_pair (transfer_at batch u)) h (All-cons (λ v. v < length batch) u [] (All-head (λ v. v < length batch) u us k)
+    (λ i d l. absurd (omega arith)))
     (All-cons (AreApart batch t) u [] (All-head (AreApart batch t) u us a) (λ i d l. absurd (omega arith))) (inl refl) e)
     (other_initiators batch t us h (All-tail (λ v. v < length batch) u us k) (All-tail (AreApart batch t) u us a))
 
@@ -473,4 +508,8 @@ distinct_initiators batch (t ∷ ts) k m =
     (distinct_initiators batch ts (All-tail (λ u. u < length batch) t ts k) (later (AreApart batch) t ts m))
 
 pub matching_few : (batch : List Transfer) (ts : List ℕ) → IsBatch batch → All (λ u. u < length batch) ts → IsMatching batch ts → length ts ≤ MAX_MODULES
-matching_few batch ts b k m = omega (arith, few_distinct (initiators batch ts) MAX_MODULES (low_initiators batch ts b k) (distinct_initiators batch ts k m), length-map ts (λ (t : ℕ). (transfer_at batch t).initiator))
+matching_few batch ts b k m = omega (
+  arith,
+  few_distinct (initiators batch ts) MAX_MODULES (low_initiators batch ts b k) (distinct_initiators batch ts k m),
+  length-map ts (λ (t : ℕ). (transfer_at batch t).initiator),
+)

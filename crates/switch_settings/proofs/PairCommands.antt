@@ -1,5 +1,6 @@
 -- The commands of pairs and their bytes.
-use Rattle.std.proofs.Common.{◌≡◌, ◌<◌, ◌≤◌, ◌+◌, ℕ, Bool, true, false, not, cond, zero, suc, List, [], ◌∷◌, ◌++◌, map, length, get_or, refl, sym, ap, ap₂, ◌∙◌, ◌*◌, arith, subst, append_assoc, Option, Some, None}
+use Rattle.std.proofs.Common.{◌≡◌, ◌<◌, ◌≤◌, ◌+◌, ℕ, Bool, true, false, not, cond, zero, suc, List, [], ◌∷◌, ◌++◌, map, length, get_or, refl, sym, ap, ap₂, ◌∙◌, ◌*◌, arith, subst, append_assoc}
+use Rattle.std.proofs.Common.{Option, Some, None}
 use Rattle.std.specs.List.{AllByRecursion, list_any, range_with_len}
 use Rattle.std.specs.Option.{IfSome}
 use Rattle.c004_commands.specs.declared.command.Command.{Command}
@@ -55,7 +56,8 @@ one_command Cut Back p a b = ((a, tt), tt)
 one_command Join (Board w) p a b = (((link0_had w p.initiator a), (link3_had w p.responder b, tt)), tt)
 one_command Cut (Board w) p a b = (((link0_had w p.initiator a), (link3_had w p.responder b, tt)), tt)
 
-kept : (b : Bool) (way : PairChange) (w : Wiring) (p : Pair) (ps : List Pair) → p.initiator < room_of w → p.responder < room_of w → AreCommands (map (command_of way w) ps) → AreCommands (map (command_of way w) (cond b (p ∷ ps) ps))
+kept : (b : Bool) (way : PairChange) (w : Wiring) (p : Pair) (ps : List Pair) → p.initiator < room_of w → p.responder < room_of w
+    → AreCommands (map (command_of way w) ps) → AreCommands (map (command_of way w) (cond b (p ∷ ps) ps))
 kept true way w p ps a b r = ((one_command way w p a b).0, r)
 kept false way w p ps a b r = r
 
@@ -79,15 +81,18 @@ setting_commands w ps a =
     let joins = subst (λ (x : List Pair). AreCommands (map (join w) x)) (without_none ps) (way_commands Join w [] ps a) in
     ((tt, AreCommands-append (map (join w) ps) (Settle ∷ []) joins (tt, tt)), quiet_before Join w ps (Settle ∷ []) refl)
 
-pub change_commands : (w : Wiring) (old new : List Pair) → ArePairs (room_of w) old → ArePairs (room_of w) new → AreCommands (change w old new) × (enquiries (change w old new) ≡ 0)
+pub change_commands : (w : Wiring) (old new : List Pair) → ArePairs (room_of w) old → ArePairs (room_of w) new → AreCommands (change w old new)
+    × (enquiries (change w old new) ≡ 0)
 change_commands w old new a b =
     let joins = map (join w) (without old new) in (
-      AreCommands-append (map (cut w) (without new old)) (joins ++ Settle ∷ []) (way_commands Cut w new old a) (AreCommands-append joins (Settle ∷ []) (way_commands Join w old new b) (tt, tt)),
+      AreCommands-append (map (cut w) (without new old)) (joins ++ Settle ∷ []) (way_commands Cut w new old a)
+          (AreCommands-append joins (Settle ∷ []) (way_commands Join w old new b) (tt, tt)),
       quiet_before Cut w (without new old) (joins ++ Settle ∷ []) (quiet_before Join w (without old new) (Settle ∷ []) refl),
     )
 
 -- what turns a switch, from what stands if that is known
-pub turning_commands : (w : Wiring) (standing : Option (List Pair)) (ps : List Pair) → IfSome standing (ArePairs (room_of w)) → ArePairs (room_of w) ps → AreCommands (turning w standing ps)
+pub turning_commands : (w : Wiring) (standing : Option (List Pair)) (ps : List Pair) → IfSome standing (ArePairs (room_of w)) → ArePairs (room_of w) ps
+    → AreCommands (turning w standing ps)
 turning_commands w None ps k a = (setting_commands w ps a).0
 turning_commands w (Some old) ps k a = (change_commands w old ps k a).0
 
@@ -96,16 +101,20 @@ text_append [] ds = refl
 text_append (c ∷ cs) ds = ap (λ t. row c ++ t) (text_append cs ds) ∙ sym (append_assoc (row c) (text cs) (text ds))
 
 -- the bytes of a change, part by part
-pub change_text : (w : Wiring) (old new : List Pair) (parted joined whole : List ℕ) → parted ≡ text (map (cut w) (without new old)) → joined ≡ parted ++ text (map (join w) (without old new)) → whole ≡ joined ++ 3 ∷ [] → whole ≡ text (change w old new)
+pub change_text : (w : Wiring) (old new : List Pair) (parted joined whole : List ℕ) → parted ≡ text (map (cut w) (without new old)) → joined ≡ parted
+    ++ text (map (join w) (without old new)) → whole ≡ joined ++ 3 ∷ [] → whole ≡ text (change w old new)
 change_text w old new parted joined whole a b c =
     let cuts = map (cut w) (without new old) in
     let joins = map (join w) (without old new) in
-    c ∙ ap (λ t. t ++ 3 ∷ []) (b ∙ ap (λ t. t ++ text joins) a) ∙ append_assoc (text cuts) (text joins) (3 ∷ []) ∙ ap (λ t. text cuts ++ t) (sym (text_append joins (Settle ∷ []))) ∙ sym (text_append cuts (joins ++ Settle ∷ []))
+    c ∙ ap (λ t. t ++ 3 ∷ []) (b ∙ ap (λ t. t ++ text joins) a) ∙ append_assoc (text cuts) (text joins) (3 ∷ [])
+    ∙ ap (λ t. text cuts ++ t) (sym (text_append joins (Settle ∷ []))) ∙ sym (text_append cuts (joins ++ Settle ∷ []))
 
 -- the bytes of a setting, part by part
-pub setting_text : (w : Wiring) (ps : List Pair) (begun joined whole : List ℕ) → begun ≡ 4 ∷ [] → joined ≡ begun ++ text (map (join w) (without [] ps)) → whole ≡ joined ++ 3 ∷ [] → whole ≡ text (setting w ps)
+pub setting_text : (w : Wiring) (ps : List Pair) (begun joined whole : List ℕ) → begun ≡ 4 ∷ [] → joined ≡ begun ++ text (map (join w) (without [] ps)) → whole
+    ≡ joined ++ 3 ∷ [] → whole ≡ text (setting w ps)
 setting_text w ps begun joined whole a b c =
-    c ∙ ap (λ t. t ++ 3 ∷ []) (b ∙ ap₂ (λ x y. x ++ text (map (join w) y)) a (without_none ps)) ∙ ap (λ t. 4 ∷ t) (sym (text_append (map (join w) ps) (Settle ∷ [])))
+    c ∙ ap (λ t. t ++ 3 ∷ []) (b ∙ ap₂ (λ x y. x ++ text (map (join w) y)) a (without_none ps))
+    ∙ ap (λ t. 4 ∷ t) (sym (text_append (map (join w) ps) (Settle ∷ [])))
 
 -- ---- how many bytes they are
 
@@ -146,12 +155,44 @@ joins_fit w ps a = omega (arith, join_rows w (without [] ps), few_kept [] ps, pa
 -- the cuts and the joins of a change, and a byte after them
 pub change_fits : (w : Wiring) (old new : List Pair) → ArePairs (room_of w) old → ArePairs (room_of w) new
     → length (text (map (cut w) (without new old))) + length (text (map (join w) (without old new))) + 1 ≤ longest_change w
-change_fits Both old new a b = omega (arith, cut_rows_both (without new old), few_kept new old, pairs_few JOINED_MODULES old a, join_rows Both (without old new), few_kept old new, pairs_few JOINED_MODULES new b)
-change_fits Forth old new a b = omega (arith, cut_rows_forth (without new old), few_kept new old, pairs_few PORTS old a, join_rows Forth (without old new), few_kept old new, pairs_few PORTS new b)
-change_fits Back old new a b = omega (arith, cut_rows_back (without new old), few_kept new old, pairs_few PORTS old a, join_rows Back (without old new), few_kept old new, pairs_few PORTS new b)
+change_fits Both old new a b = omega (
+  arith,
+  cut_rows_both (without new old),
+  few_kept new old,
+  pairs_few JOINED_MODULES old a,
+  join_rows Both (without old new),
+  few_kept old new,
+  pairs_few JOINED_MODULES new b,
+)
+change_fits Forth old new a b = omega (
+  arith,
+  cut_rows_forth (without new old),
+  few_kept new old,
+  pairs_few PORTS old a,
+  join_rows Forth (without old new),
+  few_kept old new,
+  pairs_few PORTS new b,
+)
+change_fits Back old new a b = omega (
+  arith,
+  cut_rows_back (without new old),
+  few_kept new old,
+  pairs_few PORTS old a,
+  join_rows Back (without old new),
+  few_kept old new,
+  pairs_few PORTS new b,
+)
 change_fits (Board w) old new a b =
     let most = length (links_of w) in
-    omega (arith, cut_rows_board w (without new old), few_kept new old, pairs_few most old a, join_rows (Board w) (without old new), few_kept old new, pairs_few most new b)
+    omega (
+      arith,
+      cut_rows_board w (without new old),
+      few_kept new old,
+      pairs_few most old a,
+      join_rows (Board w) (without old new),
+      few_kept old new,
+      pairs_few most new b,
+    )
 
 -- a board wires few modules
 few_wired : (w : BoardWiring) → length (links_of w) ≤ JOINED_MODULES
@@ -174,7 +215,8 @@ change_bytes_fit (Board w) = omega (arith, few_wired w)
 
 range_push : (a n : ℕ) → range_with_len a (suc n) ≡ range_with_len a n ++ (a + n) ∷ []
 range_push a zero = let e : a ≡ a + zero = omega arith in ap (λ x. x ∷ []) e
-range_push a (suc n) = let e : a + 1 + n ≡ a + suc n = omega arith in ap (λ t. a ∷ t) (range_push (a + 1) n) ∙ ap (λ x. (a ∷ range_with_len (a + 1) n) ++ x ∷ []) e
+range_push a (suc n) = let e : a + 1 + n ≡ a + suc n = omega arith in ap (λ t. a ∷ t) (range_push (a + 1) n)
+    ∙ ap (λ x. (a ∷ range_with_len (a + 1) n) ++ x ∷ []) e
 
 map_push : (ns : List ℕ) (n : ℕ) → map Enquire (ns ++ n ∷ []) ≡ map Enquire ns ++ Enquire n ∷ []
 map_push [] n = refl
@@ -186,4 +228,5 @@ enquiry_more n =
     let e : n + 1 ≡ suc n = omega arith in
     let z : 0 + n ≡ n = omega arith in
     ap (λ k. text (map Enquire (range_with_len 0 k))) e
-    ∙ ap (λ ns. text (map Enquire ns)) (range_push 0 n ∙ ap (λ x. range_with_len 0 n ++ x ∷ []) z) ∙ ap text (map_push (range_with_len 0 n) n) ∙ text_append (map Enquire (range_with_len 0 n)) (Enquire n ∷ [])
+    ∙ ap (λ ns. text (map Enquire ns)) (range_push 0 n ∙ ap (λ x. range_with_len 0 n ++ x ∷ []) z) ∙ ap text (map_push (range_with_len 0 n) n)
+    ∙ text_append (map Enquire (range_with_len 0 n)) (Enquire n ∷ [])

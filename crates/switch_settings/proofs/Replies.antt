@@ -49,7 +49,8 @@ reports (Some input) reply e = e
 
 pub all_report : (s : Switch) (output : ℕ) (replies : List ℕ) → output < PORTS → replies ≡ answers all_enquiries s → Agrees s output (get_or replies output 0)
 all_report s output replies h e =
-    reports (finmap.get s.sources output) (get_or replies output 0) (ap (λ (r : List ℕ). get_or r output 0) e ∙ some_answers 0 PORTS output s h ∙ ap (λ i. answer_byte (finmap.get s.sources i)) (omega arith))
+    reports (finmap.get s.sources output) (get_or replies output 0) (ap (λ (r : List ℕ). get_or r output 0) e ∙ some_answers 0 PORTS output s h
+    ∙ ap (λ i. answer_byte (finmap.get s.sources i)) (omega arith))
 
 pub some_too : {X : Type 0} (P Q : X → Type 0) (o : Option X) → ((x : X) → P x → Q x) → IfSome o P → IfSome o Q
 some_too P Q None f h = tt
@@ -60,11 +61,13 @@ put_same A s = refl
 put_same B s = refl
 
 -- a port that carried out the bytes that turn a switch
-pub sent : (chip : Chip) (bytes : List ℕ) (old new : Switches) (goal_switch : Switch) (replies : List ℕ) → Turns bytes (switch_at chip old) goal_switch → CarriesOutAt chip bytes old new replies → new ≡ put_switch chip goal_switch old
+pub sent : (chip : Chip) (bytes : List ℕ) (old new : Switches) (goal_switch : Switch) (replies : List ℕ) → Turns bytes (switch_at chip old) goal_switch
+    → CarriesOutAt chip bytes old new replies → new ≡ put_switch chip goal_switch old
 sent chip bytes old new goal_switch replies t did = (did t.commands t.ports t.whole).0 ∙ ap (λ (s : Switch). put_switch chip s old) t.turned
 
 -- a port that carried out the enquiries
-pub asked : (chip : Chip) (bytes : List ℕ) (old new : Switches) (replies : List ℕ) → bytes ≡ text all_enquiries → CarriesOutAt chip bytes old new replies → (new ≡ old) × (replies ≡ answers all_enquiries (switch_at chip old))
+pub asked : (chip : Chip) (bytes : List ℕ) (old new : Switches) (replies : List ℕ) → bytes ≡ text all_enquiries → CarriesOutAt chip bytes old new replies
+    → (new ≡ old) × (replies ≡ answers all_enquiries (switch_at chip old))
 asked chip bytes old new replies e did =
     let b = did all_enquiries all_ports e in
     (b.0 ∙ ap (λ (s : Switch). put_switch chip s old) (enquiries_leave (switch_at chip old)) ∙ put_same chip old, b.1)
@@ -78,7 +81,8 @@ more_pairs m n (p ∷ ps) h a = (omega (arith, a.0), omega (arith, a.1), a.2, a.
 -- ---- a reply that was read
 
 -- a reply that names an input says it, and nothing else
-pub connected_reports : (o : Option ℕ) (n input reply : ℕ) (b : Bool) → b ≡ option_eq eqb o (Some n) → n ≡ input → IsAnswer (Connected input) reply → IsTrue b ↔ Reports o reply
+pub connected_reports : (o : Option ℕ) (n input reply : ℕ) (b : Bool) → b ≡ option_eq eqb o (Some n) → n ≡ input → IsAnswer (Connected input) reply
+    → IsTrue b ↔ Reports o reply
 connected_reports None n input reply b e same is = (λ t. absurd (false≢true (sym e ∙ t)), λ low. absurd (omega (arith, is.0)))
 connected_reports (Some i) n input reply b e same is = (
   λ t. let here : i ≡ n = eqb-true i n (sym e ∙ t) in omega (arith, is.0),
@@ -95,11 +99,13 @@ loose_reports None reply b e low = (λ t. low, λ says. unnot b e)
 loose_reports (Some i) reply b e low = (λ t. absurd (false≢true (sym (ap not t) ∙ sym e)), λ says. absurd (omega arith))
 
 -- what is missed where a reply is the first that doesn't agree
-pub missed : (fault : SettingFault) (chip : Chip) (switch wanted : Switch) (replies : List ℕ) (number output : ℕ) → wanted ≡ switch → output ≡ number → number < PORTS → fault ≡ Disagreed (seen chip wanted output (get_or replies number 0)) → (Agrees wanted output (get_or replies number 0) → ⊥)
+pub missed : (fault : SettingFault) (chip : Chip) (switch wanted : Switch) (replies : List ℕ) (number output : ℕ) → wanted ≡ switch → output ≡ number
+    → number < PORTS → fault ≡ Disagreed (seen chip wanted output (get_or replies number 0)) → (Agrees wanted output (get_or replies number 0) → ⊥)
     → ((before : ℕ) → before < number → Agrees wanted before (get_or replies before 0)) → Misses chip switch replies fault
 missed fault chip switch wanted replies number output e f lt is differs agree =
     rw (is, e, f) (refl, record { known = lt; differs = rw (e, f) at differs; agree = rw e at agree })
 
-pub disagreed : (fault : SettingFault) (chip : Chip) (switch : Switch) (replies : List ℕ) → Misses chip switch replies fault → (found : Disagreement) × (fault ≡ Disagreed found) × Disagrees found chip switch replies
+pub disagreed : (fault : SettingFault) (chip : Chip) (switch : Switch) (replies : List ℕ) → Misses chip switch replies fault → (found : Disagreement)
+    × (fault ≡ Disagreed found) × Disagrees found chip switch replies
 disagreed Port chip switch replies misses = absurd misses
 disagreed (Disagreed found) chip switch replies misses = (found, refl, misses)

@@ -62,7 +62,8 @@ ordered_pairs m batch ts n has =
     let t = tabled batch ts n in
     subst (ArePairs m) (table_in_order batch ts t.table t.is n.known n.matching) (table_is_pairs m batch ts t.table t.is n.known n.matching has)
 
-pub ordered_switch : (m : ℕ) (w : Wiring) (batch : List Transfer) (ts : List ℕ) → Numbers batch ts → HasModulesOf m batch → m ≤ room_of w → switch_of w (in_order (setting_pairs batch ts)) ≡ switch_of w (setting_pairs batch ts)
+pub ordered_switch : (m : ℕ) (w : Wiring) (batch : List Transfer) (ts : List ℕ) → Numbers batch ts → HasModulesOf m batch → m ≤ room_of w
+    → switch_of w (in_order (setting_pairs batch ts)) ≡ switch_of w (setting_pairs batch ts)
 ordered_switch m w batch ts n has room =
     let t = tabled batch ts n in
     ap (switch_of w) (sym (table_in_order batch ts t.table t.is n.known n.matching)) ∙ table_is_switch m w batch ts t.table t.is n.known n.matching has room
@@ -76,25 +77,34 @@ record Given (batch : List Transfer) (settings : List (List ℕ)) (m : ℕ) (w :
   has : HasModulesOf m batch
   room : m ≤ room_of w
 
-numbers_at : (batch : List Transfer) (settings : List (List ℕ)) (m : ℕ) (w : Wiring) (k : ℕ) → Given batch settings m w → k < length settings → Numbers batch (numbers_in settings k)
+numbers_at : (batch : List Transfer) (settings : List (List ℕ)) (m : ℕ) (w : Wiring) (k : ℕ) → Given batch settings m w → k < length settings
+    → Numbers batch (numbers_in settings k)
 numbers_at batch settings m w k g lt = record { fits = g.fits; known = g.schedule.no_other k [] lt; matching = g.schedule.matchings k [] lt }
 
-pairs_in : (batch : List Transfer) (settings : List (List ℕ)) (m : ℕ) (w : Wiring) (k : ℕ) → Given batch settings m w → k < length settings → ArePairs (room_of w) (pairs_at batch settings k)
-pairs_in batch settings m w k g lt = more_pairs m (room_of w) (pairs_at batch settings k) g.room (ordered_pairs m batch (numbers_in settings k) (numbers_at batch settings m w k g lt) g.has)
+pairs_in : (batch : List Transfer) (settings : List (List ℕ)) (m : ℕ) (w : Wiring) (k : ℕ) → Given batch settings m w → k < length settings
+    → ArePairs (room_of w) (pairs_at batch settings k)
+pairs_in batch settings m w k g lt = more_pairs m (room_of w) (pairs_at batch settings k) g.room
+    (ordered_pairs m batch (numbers_in settings k) (numbers_at batch settings m w k g lt) g.has)
 
 -- one setting more
-pub sent_more : (w : Wiring) (batch : List Transfer) (settings : List (List ℕ)) (k : ℕ) → sent_for_first w batch settings (k + 1) ≡ sent_for_first w batch settings k ++ sent_for w batch settings k
-sent_more w batch settings k = ap (flat_map (sent_for w batch settings)) (range_more k) ∙ sym (flat_map_more (sent_for w batch settings) [] (range_with_len 0 k) k)
+pub sent_more : (w : Wiring) (batch : List Transfer) (settings : List (List ℕ)) (k : ℕ) → sent_for_first w batch settings (k + 1)
+    ≡ sent_for_first w batch settings k ++ sent_for w batch settings k
+sent_more w batch settings k = ap (flat_map (sent_for w batch settings)) (range_more k)
+    ∙ sym (flat_map_more (sent_for w batch settings) [] (range_with_len 0 k) k)
 
-turned : (batch : List Transfer) (settings : List (List ℕ)) (m : ℕ) (w : Wiring) (s : Switch) (k : ℕ) → Given batch settings m w → k < length settings → after_all (sent_for_first w batch settings (k + 1)) s ≡ switch_of w (pairs_at batch settings k)
-turned batch settings m w s zero g lt = ap (λ (cs : List Command). after_all cs s) (sent_more w batch settings zero) ∙ setting_law w s (pairs_at batch settings zero) (pairs_in batch settings m w zero g lt)
+turned : (batch : List Transfer) (settings : List (List ℕ)) (m : ℕ) (w : Wiring) (s : Switch) (k : ℕ) → Given batch settings m w → k < length settings
+    → after_all (sent_for_first w batch settings (k + 1)) s ≡ switch_of w (pairs_at batch settings k)
+turned batch settings m w s zero g lt = ap (λ (cs : List Command). after_all cs s) (sent_more w batch settings zero)
+    ∙ setting_law w s (pairs_at batch settings zero) (pairs_in batch settings m w zero g lt)
 turned batch settings m w s (suc k) g lt =
     let below : k < length settings = omega arith in
-    let before = subst (λ (n : ℕ). after_all (sent_for_first w batch settings n) s ≡ switch_of w (pairs_at batch settings k)) (add-one k) (turned batch settings m w s k g below) in
+    let before = subst (λ (n : ℕ). after_all (sent_for_first w batch settings n) s ≡ switch_of w (pairs_at batch settings k)) (add-one k)
+    (turned batch settings m w s k g below) in
     ap (λ (cs : List Command). after_all cs s) (sent_more w batch settings (suc k))
     ∙ after_all-append (sent_for_first w batch settings (suc k)) (sent_for w batch settings (suc k)) s
     ∙ ap (after_all (sent_for w batch settings (suc k))) before
-    ∙ change_law w (pairs_at batch settings k) (pairs_at batch settings (suc k)) (pairs_in batch settings m w k g below) (pairs_in batch settings m w (suc k) g lt)
+    ∙ change_law w (pairs_at batch settings k) (pairs_at batch settings (suc k)) (pairs_in batch settings m w k g below)
+    (pairs_in batch settings m w (suc k) g lt)
 
 pub settings_turn : SettingsTurn
 settings_turn batch settings m w s k fits schedule has room lt =

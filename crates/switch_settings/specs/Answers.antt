@@ -1,6 +1,7 @@
 -- What the outputs answer, and why the switches of a rack can't be set. Source of the answers:
 -- INMOS IMS C004 data sheet.
-use Rattle.std.specs.Prelude.{◌≡◌, ◌<◌, ◌+◌, ◌*◌, ◌⊎◌, ℕ, Bool, false, slice_index, IsTrue, IfSome, List, Option, Some, None}
+use Rattle.std.specs.Prelude.{◌≡◌, ◌<◌, ◌+◌, ◌*◌, ◌⊎◌, ℕ, Bool, false, slice_index, IsTrue, IfSome}
+use Rattle.std.specs.Prelude.{List, Option, Some, None}
 use Rattle.std.specs.FinMap as map
 use Rattle.c004_commands.specs.Answers.{answer_byte, IsAnswer}
 use Rattle.c004_commands.specs.declared.answer.OutputState.TheVariants.{Loose}

@@ -1,7 +1,8 @@
 -- What passes over the configuration links where a setting is put on the switches of a rack, and
 -- these are asked whether they stand so, step by step. That all outputs are asked, and in which
 -- order, is this project's choice.
-use Rattle.std.specs.Prelude.{◌≡◌, ◌+◌, ◌⊎◌, ℕ, Bool, true, false, List, [], ◌∷◌, ◌++◌, length, map, nat_lt, Option}
+use Rattle.std.specs.Prelude.{◌≡◌, ◌+◌, ◌⊎◌, ℕ, Bool, true, false, List, [], ◌∷◌, ◌++◌, length, map}
+use Rattle.std.specs.Prelude.{nat_lt, Option}
 use Rattle.std.specs.List.{range_with_len}
 use Rattle.c004_commands.specs.declared.command.Command.{Command}
 use Rattle.c004_commands.specs.declared.command.Command.TheVariants.{Enquire, Settle}

@@ -3,7 +3,9 @@
 use Rattle.std.specs.Prelude.{◌≡◌, ◌+◌, ◌*◌, ℕ, List, map}
 use Rattle.std.specs.List.{range_with_len}
 use Rattle.c004_commands.specs.declared.command.Command.{Command}
-use Rattle.c004_commands.specs.declared.command.Command.TheVariants.{Enquire, Connect, Cut as CutOutput, Join as JoinLinks, CutPair}
+use Rattle.c004_commands.specs.declared.command.Command.TheVariants.{Enquire, Connect}
+use Rattle.c004_commands.specs.declared.command.Command.TheVariants.{Cut as CutOutput}
+use Rattle.c004_commands.specs.declared.command.Command.TheVariants.{Join as JoinLinks, CutPair}
 use Rattle.c004_commands.specs.declared.command.TheConstants.{LONGEST_COMMAND}
 use Rattle.c004_commands.specs.declared.port.TheConstants.{PORTS}
 use Rattle.c004_commands.specs.Commands.{text, AreCommands}

@@ -4,9 +4,12 @@ ghost use Rattle.std.specs.Prelude.{◌≡◌, ◌≤◌, ◌<◌, ◌+◌, ◌+
 ghost use Rattle.std.specs.List.{list_any};
 ghost use Rattle.c004_commands.specs.Commands.{row, text};
 ghost use Rattle.crossbar.specs.Switch.{Switch};
-ghost use Rattle.crossbar.specs.Pairs.{Fits, ArePairs, room_of, switch_of, setting, change, is_pair};
+ghost use Rattle.crossbar.specs.Pairs.{Fits, ArePairs, room_of, switch_of, setting, change};
+ghost use Rattle.crossbar.specs.Pairs.{is_pair};
 ghost use Rattle.crossbar.specs.declared.chip.Wiring.TheVariants.{Board};
-ghost use Rattle.switch_settings.specs.Pairs.{command_of, commands_of, both_ways_command, one_way_command, longest_setting, longest_change, Turns, all_enquiries};
+ghost use Rattle.switch_settings.specs.Pairs.{command_of, commands_of, both_ways_command};
+ghost use Rattle.switch_settings.specs.Pairs.{one_way_command, longest_setting, longest_change};
+ghost use Rattle.switch_settings.specs.Pairs.{Turns, all_enquiries};
 
 use c004_commands::{Command, LONGEST_COMMAND, PORTS, PortNo, write};
 use crossbar::{BoardWiring, JOINED_MODULES, Pair, Wiring, laws};

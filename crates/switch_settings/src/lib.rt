@@ -13,8 +13,8 @@
 //! port that tells what passes, the bytes went whole, outputs 0 to 31 were asked in order, and each
 //! replied as the setting calls for (`HaveReplied` of `specs/Asking.antt`, whose steps are those of
 //! a drive too). Where it ends otherwise, the port failed, or the output that is named is the first
-//! whose reply is another. `specs/Schedules.antt` says the same of the first settings of a schedule,
-//! one after another.
+//! whose reply is another. `specs/Schedules.antt` says the same of the first settings of a
+//! schedule, one after another.
 #![tactic(auto)]
 
 mod bytes;

@@ -7,14 +7,12 @@ use batch::Transfer;
 use crossbar::JOINED_MODULES;
 
 /// The most modules that one switch joins.
-const JOINED: usize = JOINED_MODULES as usize;
+const ONE_SWITCH_MODULES: usize = JOINED_MODULES as usize;
 
 /// Whether a rack that has the modules of these transfers has two switches. Takes time by their
 /// number.
 pub fn is_wide(transfers: &[Transfer]) -> bool
     ensures { result ≡ needs_two transfers.now }
 {
-    transfers
-        .iter()
-        .any(|t| JOINED <= t.initiator || JOINED <= t.responder)
+    transfers.iter().any(|t| ONE_SWITCH_MODULES <= t.initiator || ONE_SWITCH_MODULES <= t.responder)
 }

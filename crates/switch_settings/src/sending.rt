@@ -15,8 +15,8 @@ use crate::bytes::{WIDE_CHANGE_BYTES, put_change, put_setting};
 use crate::pair_list::PairList;
 use crossbar::{Chip, ConfigPort, Pair, PortFault, Wiring};
 
-/// Writes the bytes that [`send_setting`] sends to a switch of this wiring to set it to the pairs, and
-/// gives their number: the change from the pairs that stand if they are known ([`put_change`]),
+/// Writes the bytes that [`send_setting`] sends to a switch of this wiring to set it to the pairs,
+/// and gives their number: the change from the pairs that stand if they are known ([`put_change`]),
 /// else the setting of any switch ([`put_setting`]). What stands in `out` after them isn't said.
 ///
 /// Of both, the initiators have to ascend, the responders to be distinct, and all to be below the

@@ -1,14 +1,18 @@
 //! A run puts a setting on the switches of a rack, and asks them whether they stand so.
 
-ghost use Rattle.std.specs.Prelude.{◌≡◌, ◌≤◌, ◌<◌, IsTrue, true, false, length, OnOk, OnErr, IfOk, IfErr};
+ghost use Rattle.std.specs.Prelude.{◌≡◌, ◌≤◌, ◌<◌, IsTrue, true, false, length, OnOk, OnErr, IfOk};
+ghost use Rattle.std.specs.Prelude.{IfErr};
 ghost use Rattle.crossbar.specs.Chips.{switch_at};
 ghost use Rattle.crossbar.specs.Pairs.{ArePairs, room_of, switch_of};
 ghost use Rattle.crossbar.specs.Traffic.{Passes, PassesFront};
 ghost use Rattle.crossbar.specs.declared.chip.Chip.TheVariants.{A};
 ghost use Rattle.crossbar.specs.declared.chip.Wiring.TheVariants.{Both};
 ghost use Rattle.crossbar.specs.declared.switch.TheConstants.{JOINED_MODULES};
-ghost use Rattle.switch_settings.specs.Answers.{AllAgree, Misses, AreSetTo, IsSettingFault, IsStandingAt, AreStanding, AreBothSet, AreBothStanding};
-ghost use Rattle.switch_settings.specs.Asking.{AreDone, HasPassedFor, HavePassedFor, HaveReplied, asked, asked_steps, wirings};
+ghost use Rattle.switch_settings.specs.Answers.{AllAgree, Misses, AreSetTo, IsSettingFault};
+ghost use Rattle.switch_settings.specs.Answers.{IsStandingAt, AreStanding, AreBothSet};
+ghost use Rattle.switch_settings.specs.Answers.{AreBothStanding};
+ghost use Rattle.switch_settings.specs.Asking.{AreDone, HasPassedFor, HavePassedFor, HaveReplied};
+ghost use Rattle.switch_settings.specs.Asking.{asked, asked_steps, wirings};
 ghost use Rattle.switch_settings.specs.Pairs.{all_enquiries};
 
 use crate::bytes::{enquiry_bytes, port_of};

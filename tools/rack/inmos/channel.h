@@ -1,4 +1,5 @@
-/* In the place of INMOS's header of this name: the links of a module, or of a relay, each a socket or a pipe each way. rack.c has the calls. */
+/* In the place of INMOS's header of this name: the links of a module, or of a relay, each a socket
+ * or a pipe each way. rack.c has the calls. */
 typedef struct channel Channel;
 extern Channel *const links[4];
 #define LINK0IN links[0]

@@ -1,5 +1,6 @@
-/* Has examples/board/module.c obey in a rack of processes: MODULE LINK0 LINK3 LINK1 [LINK2], as examples/rack/module.py. With RELAY it is
- * examples/board/relay.c that relays: RELAY CABLE CONFIG CHAIN, as examples/board/relay.py. */
+/* Has examples/board/module.c obey in a rack of processes: MODULE LINK0 LINK3 LINK1 [LINK2], as
+ * examples/rack/module.py. With RELAY it is examples/board/relay.c that relays: RELAY CABLE CONFIG
+ * CHAIN, as examples/board/relay.py. */
 #include "channel.h"
 #include "process.h"
 #include <fcntl.h>
@@ -10,7 +11,8 @@
 #include <stdlib.h>
 #include <unistd.h>
 
-/* Links 0 and 3 of a module acknowledge what comes; links 1 and 2 don't, nor do those of the relay. */
+/* Links 0 and 3 of a module acknowledge what comes; links 1 and 2 don't,
+ * nor do those of the relay. */
 struct channel { int in, out, acknowledges; };
 static Channel ends[4] = {{-1, -1, 0}, {-1, -1, 0}, {-1, -1, 0}, {-1, -1, 0}};
 Channel *const links[4] = {&ends[0], &ends[1], &ends[2], &ends[3]};
@@ -106,7 +108,8 @@ void ProcPar(Process *first, ...)
     second = va_arg(others, Process *);
     must(va_arg(others, Process *) == NULL);
     va_end(others);
-    must(pthread_create(&first->thread, NULL, start, first) == 0 && pthread_create(&second->thread, NULL, start, second) == 0);
+    must(pthread_create(&first->thread, NULL, start, first) == 0 &&
+         pthread_create(&second->thread, NULL, start, second) == 0);
     must(pthread_join(first->thread, NULL) == 0 && pthread_join(second->thread, NULL) == 0);
 }
 

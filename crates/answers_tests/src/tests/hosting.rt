@@ -207,7 +207,8 @@ fn a_broken_record_ends_all_sessions(rt: HostRuntime) {
     assert!(rt; ends_all(&rt, rt.alloc()));
 }
 
-/// Whether a client was told all, and its session ended by itself; or nothing, and its record broke.
+/// Whether a client was told all, and its session ended by itself; or nothing, and its record
+/// broke.
 fn was_told_all_or_nothing(ending: &Ending<Vec<u8>>) -> bool {
     was_told(ending, HEARD) || was_lost_untold(ending)
 }

@@ -3,7 +3,7 @@
 //! was cut.
 
 use crate::tests::books::small_book;
-use book_record::{session_limit, detach_stream, attach_stream};
+use book_record::{attach_stream, detach_stream, session_limit};
 use client_session::NoListener;
 use exchange_limits::WorkerCount;
 use record_replay::{RecordFault, replay};
@@ -213,8 +213,8 @@ fn damaged_records(rt: HostRuntime) {
     assert!(rt; wrong(&rt, other) == Some((RecordFault::Reply(0), 18)));
     let none = "0 peek 0 80000800\nword 00000000\n=37648a6d\n0 pick\npoked\n=dcdafc37\n";
     assert!(rt; wrong(&rt, none) == Some((RecordFault::Call(1), 42)));
-    let twice =
-        "0 peek 0 80000800\nword 00000000\n=37648a6d\n0 peek 0 80000800\nword 00000000\n=37648a6d\n";
+    let twice = "0 peek 0 80000800\nword 00000000\n=37648a6d\n0 peek 0 80000800\nword 00000000\n\
+        =37648a6d\n";
     assert!(rt; wrong(&rt, twice) == Some((RecordFault::Sum(1), 42)));
     assert!(rt; wrong(&rt, "0 peek\0") == Some((RecordFault::Sum(0), 0)));
     assert!(rt; wrong(&rt, "end 0\n=4ff4b165\nend\n") == Some((RecordFault::More, 16)));

@@ -4,6 +4,6 @@
 mod days;
 mod exchange;
 mod readings;
-mod syncs;
 mod sizes;
+mod syncs;
 mod ways;

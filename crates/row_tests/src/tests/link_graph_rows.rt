@@ -5,7 +5,8 @@ ghost use Rattle.link_graph.specs.declared.link.Link.{Link};
 ghost use Rattle.link_graph.specs.Counts.{uses, AreUsers};
 ghost use Rattle.link_graph.specs.Uses.{IsMatching};
 ghost use Rattle.link_graph.specs.Certificates.{naming};
-ghost use Rattle.link_graph.specs.Rows.{two_settings, two_named, two_settings_text, certified_text, empty_text};
+ghost use Rattle.link_graph.specs.Rows.{two_settings, two_named, two_settings_text, certified_text};
+ghost use Rattle.link_graph.specs.Rows.{empty_text};
 ghost use Rattle.link_graph.specs.ScheduleText.{schedule_text, text_with};
 
 use super::prints::are_printed;

@@ -3,7 +3,8 @@ ghost use Rattle.batch.specs.Rows.{three_transfers};
 ghost use Rattle.link_graph.specs.Rows.{two_settings};
 ghost use Rattle.module_orders.specs.Orders.{orders_of, told_to};
 ghost use Rattle.module_orders.specs.OrdersText.{orders_text};
-ghost use Rattle.row_tests.specs.Rows.{empty_orders, first_orders, swap, swap_orders, turned_orders, three_transfers_orders};
+ghost use Rattle.row_tests.specs.Rows.{empty_orders, first_orders, swap, swap_orders};
+ghost use Rattle.row_tests.specs.Rows.{turned_orders, three_transfers_orders};
 
 use super::texts::read;
 use batch::Batch;

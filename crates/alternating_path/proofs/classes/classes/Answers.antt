@@ -12,30 +12,48 @@ pub loop-t-init : goal.loop-t-init
 loop-t-init c = grind (arith, common_steps)
 
 pub loop-t-preserved-in_default : goal.loop-t-preserved-in_default
-loop-t-preserved-in_default c = record { partial = passed_over _ _ _ _ c.loop-t.invariant.partial c.in_default.is; cost = omega (arith, c.loop-t.invariant.cost, c.tick.ensures); sized = c.loop-t.invariant.sized }
+loop-t-preserved-in_default c = record {
+  partial = passed_over _ _ _ _ c.loop-t.invariant.partial c.in_default.is;
+  cost =
+      omega (arith, c.loop-t.invariant.cost, c.tick.ensures);
+  sized = c.loop-t.invariant.sized;
+}
 
 pub push_into-requires : goal.push_into-requires
 push_into-requires c =
     let colour : colour_at c.args.colour.now c.loop-t.t ≡ Some c.in-Some.c = c.in-Some.is in
     let in_range : c.in-Some.c < c.args.colours = c.requires c.loop-t.t c.in-Some.c colour in
     let within : c.in-Some.c < length c.loop-t.list_of_colour.items = omega (arith, c.loop-t.invariant.sized) in
-    c.loop-t.invariant.partial.known c.in-Some.c _ (sym (get_or_read c.loop-t.list_of_colour.items c.in-Some.c c.index.result.now within c.index.ensures None) ∙ c.in-Some-index.is)
+    c.loop-t.invariant.partial.known c.in-Some.c _ (sym (get_or_read c.loop-t.list_of_colour.items c.in-Some.c c.index.result.now within c.index.ensures None)
+    ∙ c.in-Some-index.is)
 
 pub loop-t-preserved-in-Some-index : goal.loop-t-preserved-in-Some-index
 loop-t-preserved-in-Some-index c =
     let colour : colour_at c.args.colour.now c.loop-t.t ≡ Some c.in-Some.c = c.in-Some.is in
     let in_range : c.in-Some.c < c.args.colours = c.requires c.loop-t.t c.in-Some.c colour in
     let within : c.in-Some.c < length c.loop-t.list_of_colour.items = omega (arith, c.loop-t.invariant.sized) in
-    let list : get_or c.loop-t.list_of_colour.items c.in-Some.c None ≡ Some c.in-Some-index.k = sym (get_or_read c.loop-t.list_of_colour.items c.in-Some.c c.index.result.now within c.index.ensures None) ∙ c.in-Some-index.is in
-    record { partial = rw c.in_ok-push_into.ensures (goes_into _ _ _ _ _ c.loop-t.invariant.partial colour c.in-Some-index.k list); cost = omega (arith, c.loop-t.invariant.cost, c.tick.ensures); sized = c.loop-t.invariant.sized }
+    let list : get_or c.loop-t.list_of_colour.items c.in-Some.c None ≡ Some c.in-Some-index.k =
+    sym (get_or_read c.loop-t.list_of_colour.items c.in-Some.c c.index.result.now within c.index.ensures None) ∙ c.in-Some-index.is in
+    record {
+      partial = rw c.in_ok-push_into.ensures (goes_into _ _ _ _ _ c.loop-t.invariant.partial colour c.in-Some-index.k list);
+      cost =
+          omega (arith, c.loop-t.invariant.cost, c.tick.ensures);
+      sized = c.loop-t.invariant.sized;
+    }
 
 pub loop-t-preserved : goal.loop-t-preserved
 loop-t-preserved c =
     let colour : colour_at c.args.colour.now c.loop-t.t ≡ Some c.in-Some.c = c.in-Some.is in
     let in_range : c.in-Some.c < c.args.colours = c.requires c.loop-t.t c.in-Some.c colour in
     let within : c.in-Some.c < length c.loop-t.list_of_colour.items = omega (arith, c.loop-t.invariant.sized) in
-    let none : get_or c.loop-t.list_of_colour.items c.in-Some.c None ≡ None = sym (get_or_read c.loop-t.list_of_colour.items c.in-Some.c c.index.result.now within c.index.ensures None) ∙ c.in_default-index.is in
-    let count : c.len.result ≡ length (lists_of c.loop-t.lists.items) = omega (arith, length-map c.loop-t.lists.items (λ v. v.items), c.len.ensures, c.loop-t.lists.ok.0) in
+    let none : get_or c.loop-t.list_of_colour.items c.in-Some.c None ≡ None =
+    sym (get_or_read c.loop-t.list_of_colour.items c.in-Some.c c.index.result.now within c.index.ensures None) ∙ c.in_default-index.is in
+    let count : c.len.result ≡ length (lists_of c.loop-t.lists.items) = omega (
+      arith,
+      length-map c.loop-t.lists.items (λ v. v.items),
+      c.len.ensures,
+      c.loop-t.lists.ok.0,
+    ) in
     record {
       partial = rw (c.in_ok-push_alone.ensures, count) (goes_alone _ _ _ _ _ c.loop-t.invariant.partial colour none within);
       cost = omega (arith, c.loop-t.invariant.cost, c.tick.ensures);

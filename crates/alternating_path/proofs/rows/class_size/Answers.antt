@@ -9,12 +9,22 @@ loop-holder-preserved c =
     let i = c.loop-holder.invariant in
     elim c.if-is_some.branch [
       | then-is_some w ↦ rw w.size-is (record {
-        counted = omega (arith, i.counted, count_by_more_yes is_some c.args.starts.now c.loop-holder.holder-index None c.loop-holder-test.true (sym c.is_some.ensures ∙ w.if-is_some.true));
+        counted = omega (
+          arith,
+          i.counted,
+          count_by_more_yes is_some c.args.starts.now c.loop-holder.holder-index None c.loop-holder-test.true
+              (sym c.is_some.ensures ∙ w.if-is_some.true),
+        );
         cost = omega (arith, i.cost, c.tick.ensures);
         few = omega (arith, i.few);
       })
       | else-is_some w ↦ rw w.size-is (record {
-        counted = omega (arith, i.counted, count_by_more_no is_some c.args.starts.now c.loop-holder.holder-index None c.loop-holder-test.true (sym c.is_some.ensures ∙ w.if-is_some.false));
+        counted = omega (
+          arith,
+          i.counted,
+          count_by_more_no is_some c.args.starts.now c.loop-holder.holder-index None c.loop-holder-test.true
+              (sym c.is_some.ensures ∙ w.if-is_some.false),
+        );
         cost = omega (arith, i.cost, c.tick.ensures);
         few = omega (arith, i.few);
       })

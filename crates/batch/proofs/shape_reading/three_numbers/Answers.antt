@@ -10,5 +10,6 @@ returns-in_err-blocks-clause-none c = rw c.from_residual-in_err-blocks.ensures (
 pub returns-in_err-words-clause-none : goal.returns-in_err-words-clause-none
 returns-in_err-words-clause-none c = rw c.from_residual-in_err-words.ensures (λ b denotes.
     let fits = of_shape b denotes.allowed in
-    let p = to_blocks c.args.text.now c.in_ok-modules.modules c.in_ok-blocks.blocks c.in_ok-modules.rest.now c.in_ok-blocks.rest.now b c.in_ok-modules.ensures.some c.in_ok-blocks.ensures.some fits denotes.spelled in
+    let p = to_blocks c.args.text.now c.in_ok-modules.modules c.in_ok-blocks.blocks c.in_ok-modules.rest.now c.in_ok-blocks.rest.now b
+    c.in_ok-modules.ensures.some c.in_ok-blocks.ensures.some fits denotes.spelled in
     c.in_err-words.ensures.none b.words fits.words p.2)

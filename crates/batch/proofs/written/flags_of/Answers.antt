@@ -1,5 +1,5 @@
 use Rattle.std.proofs.Common.{◌∙◌, true, arith, length-set, rules}
-use Rattle.batch.specs.declared.overlap.TheConstants.{MAX_RACK_BLOCKS}
+use Rattle.batch.specs.declared.limits.TheConstants.{MAX_RACK_BLOCKS}
 use Rattle.batch.specs.ShapeView.{widest}
 use Rattle.batch.specs.Places.{HasPlace}
 use Rattle.batch.proofs.Flags.{up_none, up_more}
@@ -16,7 +16,8 @@ loop-transfer-preserved c =
     let here : HasPlace widest c.destination.result = search rules in
     record {
       size = length-set now.written k true ∙ now.invariant.size;
-      up = up_more c.args.transfers.now now.transfer-index now.written k c.destination.result c.widest_index.ensures.value c.destination.ensures here (omega arith) now.invariant.up;
+      up = up_more c.args.transfers.now now.transfer-index now.written k c.destination.result c.widest_index.ensures.value c.destination.ensures here
+          (omega arith) now.invariant.up;
     }
 
 pub returns : goal.returns

@@ -1,5 +1,5 @@
 use Rattle.std.proofs.Common.{◌≡◌, length}
-use Rattle.batch.specs.declared.overlap.TheConstants.{MAX_RACK_BLOCKS}
+use Rattle.batch.specs.declared.limits.TheConstants.{MAX_RACK_BLOCKS}
 use Rattle.batch.proofs.Flags.{AreUpBelow}
 use Rattle.batch.proofs.written.flags_of.Given as goal
 

@@ -18,4 +18,5 @@ returns-in-Ok-clause-book g c =
     let p = c.part-bare.ensures in
     let e = c.in-Ok.ensures in
     let history = ap (λ a. a.history) p.same in
-    c.go_on.ensures ∙ (λ i. book_view (p.same i).opening ((e.pushed ∙ history) i) ((e.queued ∙ history ∙ sym c.requires.all) i) (p.same i).machine ((e.whole ∙ sym c.requires.whole) i))
+    c.go_on.ensures ∙ (λ i. book_view (p.same i).opening ((e.pushed ∙ history) i) ((e.queued ∙ history ∙ sym c.requires.all) i) (p.same i).machine
+    ((e.whole ∙ sym c.requires.whole) i))

@@ -79,7 +79,8 @@ returns g c =
       recorded = λ k d less.
           let s = slice_index_or c.args.seats.items k d in
           recorded_more (take w.front (made_in notes)) more.0 s
-          (subst (λ l. IsPrefix l (own s.session (take w.front (made_in notes)))) (sym (e.told k d less ∙ ap (λ h. marked_in (notes_of s.session h)) same)) (w.told s.session));
+          (subst (λ l. IsPrefix l (own s.session (take w.front (made_in notes)))) (sym (e.told k d less ∙ ap (λ h. marked_in (notes_of s.session h)) same))
+          (w.told s.session));
       counted = omega (arith, w.counted, amount, e.amount);
       none_ahead = λ k d less. let seen = e.seen k d less in omega (arith, seen, later, read, raised, behind, now);
       unstopped = λ never. subst AreUnstopped (sym back.history) (b.unstopped never);

@@ -8,7 +8,8 @@ use Rattle.batch_book.proofs.close.compared.Goals as goal
 pub returns-clause-asked : goal.returns-clause-asked
 returns-clause-asked g c =
     let notes = c.args.keeper.now.history in
-    sym c.into_inner-access.ensures.made ∙ (ap made_in (c.compare.ensures.list ∙ ap (λ s. notes_of s notes) c.into_inner-access.ensures.session) ∙ own_asked c.args.seat.session notes)
+    sym c.into_inner-access.ensures.made ∙ (ap made_in (c.compare.ensures.list ∙ ap (λ s. notes_of s notes) c.into_inner-access.ensures.session)
+    ∙ own_asked c.args.seat.session notes)
 
 pub returns-clause-told : goal.returns-clause-told
 returns-clause-told g c =

@@ -29,14 +29,18 @@ loop-seat-init g c =
 
 pub compared-access-requires : goal.compared-access-requires
 compared-access-requires g c =
-    let t = YieldsList-turn (YieldsList-from_vec {s = c.into_iter-seat-iterator.result} c.pop.new.self.items (search rules) (search rules)) c.loop-seat.yielded c.loop-seat.seat-iterator c.loop-seat.yielded_by c.next.result c.next.new.self c.in-Some-seat.seat c.in-Some-seat.is c.next.ensures.steps in
-    let word = its_word c.args.seats.items c.pop.new.self.items c.in-Some.last c.in-Some-seat.seat c.args.word.now _ c.requires.seats c.in-Some.ensures.items t.0 t.1 in
+    let t = YieldsList-turn (YieldsList-from_vec {s = c.into_iter-seat-iterator.result} c.pop.new.self.items (search rules) (search rules)) c.loop-seat.yielded
+    c.loop-seat.seat-iterator c.loop-seat.yielded_by c.next.result c.next.new.self c.in-Some-seat.seat c.in-Some-seat.is c.next.ensures.steps in
+    let word = its_word c.args.seats.items c.pop.new.self.items c.in-Some.last c.in-Some-seat.seat c.args.word.now _ c.requires.seats c.in-Some.ensures.items
+    t.0 t.1 in
     rw word refl
 
 pub join-requires-clause-word : goal.join-requires-clause-word
 join-requires-clause-word g c =
-    let t = YieldsList-turn (YieldsList-from_vec {s = c.into_iter-seat-iterator.result} c.pop.new.self.items (search rules) (search rules)) c.loop-seat.yielded c.loop-seat.seat-iterator c.loop-seat.yielded_by c.next.result c.next.new.self c.in-Some-seat.seat c.in-Some-seat.is c.next.ensures.steps in
-    let word = its_word c.args.seats.items c.pop.new.self.items c.in-Some.last c.in-Some-seat.seat c.args.word.now _ c.requires.seats c.in-Some.ensures.items t.0 t.1 in
+    let t = YieldsList-turn (YieldsList-from_vec {s = c.into_iter-seat-iterator.result} c.pop.new.self.items (search rules) (search rules)) c.loop-seat.yielded
+    c.loop-seat.seat-iterator c.loop-seat.yielded_by c.next.result c.next.new.self c.in-Some-seat.seat c.in-Some-seat.is c.next.ensures.steps in
+    let word = its_word c.args.seats.items c.pop.new.self.items c.in-Some.last c.in-Some-seat.seat c.args.word.now _ c.requires.seats c.in-Some.ensures.items
+    t.0 t.1 in
     (c.loop-seat.invariant.word, search rules)
 
 pub loop-seat-preserved : goal.loop-seat-preserved
@@ -70,7 +74,8 @@ pub returns-clause-asked : goal.returns-clause-asked
 returns-clause-asked g c =
     let is : SeatState → Type 0 = AskedAgrees (made_in c.args.keeper.now.history) in
     let rest = c.pop.new.self.items in
-    let end = YieldsList-end (YieldsList-from_vec {s = c.into_iter-seat-iterator.result} rest (search rules) (search rules)) c.loop-seat.yielded c.loop-seat.seat-iterator c.loop-seat.yielded_by c.next.result c.next.new.self c.in-None.is c.next.ensures.steps in
+    let end = YieldsList-end (YieldsList-from_vec {s = c.into_iter-seat-iterator.result} rest (search rules) (search rules)) c.loop-seat.yielded
+    c.loop-seat.seat-iterator c.loop-seat.yielded_by c.next.result c.next.new.self c.in-None.is c.next.ensures.steps in
     let others : All is rest = subst (λ (l : List SeatState). All is l) (sym (map-id c.loop-seat.yielded) ∙ end.0) c.loop-seat.invariant.asked in
     subst (λ (l : List SeatState). All is l) (sym c.in-Some.ensures.items) (All-push is rest c.in-Some.last others c.compared-all.ensures.asked)
 
@@ -78,7 +83,8 @@ pub returns-clause-told : goal.returns-clause-told
 returns-clause-told g c =
     let is : SeatState → Type 0 = LogAgrees c.args.keeper.now.history in
     let rest = c.pop.new.self.items in
-    let end = YieldsList-end (YieldsList-from_vec {s = c.into_iter-seat-iterator.result} rest (search rules) (search rules)) c.loop-seat.yielded c.loop-seat.seat-iterator c.loop-seat.yielded_by c.next.result c.next.new.self c.in-None.is c.next.ensures.steps in
+    let end = YieldsList-end (YieldsList-from_vec {s = c.into_iter-seat-iterator.result} rest (search rules) (search rules)) c.loop-seat.yielded
+    c.loop-seat.seat-iterator c.loop-seat.yielded_by c.next.result c.next.new.self c.in-None.is c.next.ensures.steps in
     let others : All is rest = subst (λ (l : List SeatState). All is l) (sym (map-id c.loop-seat.yielded) ∙ end.0) c.loop-seat.invariant.told in
     subst (λ (l : List SeatState). All is l) (sym c.in-Some.ensures.items) (All-push is rest c.in-Some.last others c.compared-all.ensures.told)
 
@@ -86,6 +92,8 @@ pub returns-clause-seen : goal.returns-clause-seen
 returns-clause-seen g c =
     let low : SeatState → Type 0 = λ s. s.seen ≤ c.loop-seat.all.watcher.seen in
     let rest = c.pop.new.self.items in
-    let end = YieldsList-end (YieldsList-from_vec {s = c.into_iter-seat-iterator.result} rest (search rules) (search rules)) c.loop-seat.yielded c.loop-seat.seat-iterator c.loop-seat.yielded_by c.next.result c.next.new.self c.in-None.is c.next.ensures.steps in
+    let end = YieldsList-end (YieldsList-from_vec {s = c.into_iter-seat-iterator.result} rest (search rules) (search rules)) c.loop-seat.yielded
+    c.loop-seat.seat-iterator c.loop-seat.yielded_by c.next.result c.next.new.self c.in-None.is c.next.ensures.steps in
     let others : All low rest = subst (λ (l : List SeatState). All low l) (sym (map-id c.loop-seat.yielded) ∙ end.0) c.loop-seat.invariant.seen in
-    subst (λ (l : List SeatState). All low l) (sym c.in-Some.ensures.items) (All-push low rest c.in-Some.last others (omega (arith, c.compared-all.ensures.seen, c.loop-seat.invariant.first_seen)))
+    subst (λ (l : List SeatState). All low l) (sym c.in-Some.ensures.items)
+    (All-push low rest c.in-Some.last others (omega (arith, c.compared-all.ensures.seen, c.loop-seat.invariant.first_seen)))

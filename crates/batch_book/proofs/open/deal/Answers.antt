@@ -41,7 +41,8 @@ loop-session-preserved g c =
       next = omega (arith, c.deal.ensures.dealt, inv.next);
       dealt = dealt_more word start session c.loop-session.seats.items c.push.new.self.items c.new-seat.result
           (rw c.unwrap.ensures at c.push.ensures.items)
-          (c.new-seat.ensures ∙ ap₂ (λ (o : WatcherView) (n : ℕ). open_seat o session [] [] n false) given split.parts.1 ∙ later_seat word start session (omega arith))
+          (c.new-seat.ensures ∙ ap₂ (λ (o : WatcherView) (n : ℕ). open_seat o session [] [] n false) given split.parts.1
+          ∙ later_seat word start session (omega arith))
           inv.dealt;
     }
 
@@ -56,7 +57,9 @@ returns-clause-seats g c =
     let few : sessions ≤ ALL_PARTS = omega (arith, c.requires.few) in
     all_dealt word start sessions c.loop-session.seats.items c.insert.new.self.items c.new-seat-2.result
     (rw c.unwrap-2.ensures at c.insert.ensures.items)
-    (c.new-seat-2.ensures ∙ ap (λ (o : WatcherView). open_seat o 0 [] [] c.loop-session.first.parts false) inv.watcher ∙ ap (λ (r : ℕ). open_seat (watcher_view word start r c.loop-session.first.parts) 0 [] [] c.loop-session.first.parts false) (sym c.requires.seen) ∙ ap (λ (n : ℕ). new_seat word start 0 n) left)
+    (c.new-seat-2.ensures ∙ ap (λ (o : WatcherView). open_seat o 0 [] [] c.loop-session.first.parts false) inv.watcher
+    ∙ ap (λ (r : ℕ). open_seat (watcher_view word start r c.loop-session.first.parts) 0 [] [] c.loop-session.first.parts false) (sym c.requires.seen)
+    ∙ ap (λ (n : ℕ). new_seat word start 0 n) left)
     few (subst (λ (n : ℕ). AreDealt word start n c.loop-session.seats.items) end inv.dealt)
 
 pub returns-clause-dealt : goal.returns-clause-dealt

@@ -8,5 +8,6 @@ use Rattle.board_wiring.proofs.reading.first_line.Goals as goal
 pub returns-then-count-eq0-clause-none : goal.returns-then-count-eq0-clause-none
 returns-then-count-eq0-clause-none c count rest headed =
     let spelled = headed.spelled ∙ append_assoc (codes "wiring ") (number count line_feed) rest in
-    let one = after_number c.args.text.now (codes "wiring ") c.in_ok-count.count count line_feed c.in_ok-count.rest.now rest ends_line c.in_ok-count.ensures.some.0 (omega (arith, headed.few)) c.in_ok-count.ensures.some.1 spelled in
+    let one = after_number c.args.text.now (codes "wiring ") c.in_ok-count.count count line_feed c.in_ok-count.rest.now rest ends_line
+    c.in_ok-count.ensures.some.0 (omega (arith, headed.few)) c.in_ok-count.ensures.some.1 spelled in
     omega (arith, one.0, headed.some, headed.few)

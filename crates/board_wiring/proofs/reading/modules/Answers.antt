@@ -15,12 +15,14 @@ returns-in_default-with-clause-err c =
       record { counted = refl; wired = c.loop-number.invariant.wired; spelled = c.loop-number.invariant.spelled },
       omega (arith, counted, c.loop-number-test.true),
       λ on after same own.
-          let one = one_line c.in-Some.on on c.in-Some.after.now after c.in-Some.ensures.some.0 (last_ports modules on own) (sym c.in-Some.ensures.some.1 ∙ same) in
+          let one = one_line c.in-Some.on on c.in-Some.after.now after c.in-Some.ensures.some.0 (last_ports modules on own)
+          (sym c.in-Some.ensures.some.1 ∙ same) in
           c.in_default-with.ensures.none (subst (λ (x : WiredModule). IsTrue (are_wired (modules ++ x ∷ []))) (sym one.0) own),
       omega (arith, counted),
     )
 
 pub loop-number-preserved : goal.loop-number-preserved
 loop-number-preserved c =
-    more_modules c.args.lines.now c.loop-number.number (modules_of c.loop-number.board) (modules_of c.in-Some-with.more) c.in-Some.on c.loop-number.rest.now c.in-Some.after.now
+    more_modules c.args.lines.now c.loop-number.number (modules_of c.loop-number.board) (modules_of c.in-Some-with.more) c.in-Some.on c.loop-number.rest.now
+    c.in-Some.after.now
     c.loop-number.invariant c.in-Some.ensures.some.1 c.in-Some-with.ensures.some c.in-Some-with.more.own

@@ -10,7 +10,8 @@ pub loop-read-preserved : goal.loop-read-preserved
 loop-read-preserved c =
     let l = c.loop-read in
     let client = c.in_ok-name.ensures.some in
-    one_read c.args.text.now l.rest.now c.in_ok-name.left.now c.in_ok-name.name.now l.read l.invariant client.0 client.1 ((c.is_new.ensures l.invariant.names l.rest.now l.invariant.count l.invariant.are).0 c.if-not-is_new.false)
+    one_read c.args.text.now l.rest.now c.in_ok-name.left.now c.in_ok-name.name.now l.read l.invariant client.0 client.1
+    ((c.is_new.ensures l.invariant.names l.rest.now l.invariant.count l.invariant.are).0 c.if-not-is_new.false)
 
 pub returns-in_err-name-clause-none : goal.returns-in_err-name-clause-none
 returns-in_err-name-clause-none c =

@@ -13,7 +13,8 @@ loop-seen-preserved c =
     let l = c.loop-seen in
     let other = c.in-Some.other.now in
     let same = slice_eq-Decides Decides-eqb other c.args.name.now c.eq.result c.eq.ensures in
-    none_so_more c.args.text.now c.args.name.now other l.rest.now c.in-Some.left.now l.seen l.invariant c.in-Some.ensures.some.0 c.in-Some.ensures.some.1 (λ is. false≢true (sym c.if-eq.false ∙ same.1 is))
+    none_so_more c.args.text.now c.args.name.now other l.rest.now c.in-Some.left.now l.seen l.invariant c.in-Some.ensures.some.0 c.in-Some.ensures.some.1
+    (λ is. false≢true (sym c.if-eq.false ∙ same.1 is))
 
 pub returns-in_default : goal.returns-in_default
 returns-in_default c =
@@ -25,7 +26,8 @@ returns-then-eq c =
     let l = c.loop-seen in
     let other = c.in-Some.other.now in
     let same = slice_eq-Decides Decides-eqb other c.args.name.now c.eq.result c.eq.ensures in
-    new_not c.args.text.now c.args.name.now other l.rest.now c.in-Some.left.now l.seen c.args.clients l.invariant c.loop-seen-test.true c.in-Some.ensures.some.0 c.in-Some.ensures.some.1 (same.0 c.if-eq.true)
+    new_not c.args.text.now c.args.name.now other l.rest.now c.in-Some.left.now l.seen c.args.clients l.invariant c.loop-seen-test.true c.in-Some.ensures.some.0
+    c.in-Some.ensures.some.1 (same.0 c.if-eq.true)
 
 pub returns : goal.returns
 returns c =

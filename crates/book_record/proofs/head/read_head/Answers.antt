@@ -9,7 +9,8 @@ pub returns-in_err-end-clause-none : goal.returns-in_err-end-clause-none
 returns-in_err-end-clause-none c = rw c.from_residual.ensures (no_end c.args.text.now (sym c.in_err-end.ensures))
 
 pub returns-in_err-shape-clause-none : goal.returns-in_err-shape-clause-none
-returns-in_err-shape-clause-none c = rw c.from_residual-in_err-shape.ensures (no_first c.args.text.now c.in_ok-end.end (sym c.in_ok-end.ensures) c.in_err-shape.ensures.none)
+returns-in_err-shape-clause-none c = rw c.from_residual-in_err-shape.ensures
+    (no_first c.args.text.now c.in_ok-end.end (sym c.in_ok-end.ensures) c.in_err-shape.ensures.none)
 
 pub whole_head-requires-clause-line : goal.whole_head-requires-clause-line
 whole_head-requires-clause-line c =

@@ -16,11 +16,16 @@ pub returns-in_err-end-clause-none : goal.returns-in_err-end-clause-none
 returns-in_err-end-clause-none c = rw c.from_residual-in_err-end.ensures (λ e sum n allowed word fits same.
     let after = hex8 sum ++ space ∷ decimal n in
     let rest = c.in_ok-rest.rest.now in
-    no_byte space rest (sym c.in_err-end.ensures) (shape_text e) after (spaceless e) (after_word c.args.line.now (codes "record-2 ") rest (shape_text e ++ space ∷ after) c.in_ok-rest.ensures same))
+    no_byte space rest (sym c.in_err-end.ensures) (shape_text e) after (spaceless e)
+    (after_word c.args.line.now (codes "record-2 ") rest (shape_text e ++ space ∷ after) c.in_ok-rest.ensures same))
 
 pub returns-in-Err-clause-none : goal.returns-in-Err-clause-none
 returns-in-Err-clause-none c = λ e sum n allowed word fits same.
-    c.in-Err.ensures.bad e (record { spelled = (shape_there c.args.line.now c.in_ok-rest.rest.now c.in_ok-end.end e sum n c.in_ok-rest.ensures (sym c.in_ok-end.ensures) same).0; allowed = allowed })
+    c.in-Err.ensures.bad e
+    (record {
+      spelled = (shape_there c.args.line.now c.in_ok-rest.rest.now c.in_ok-end.end e sum n c.in_ok-rest.ensures (sym c.in_ok-end.ensures) same).0;
+      allowed = allowed;
+    })
 
 pub returns-in_err-sum-clause-none : goal.returns-in_err-sum-clause-none
 returns-in_err-sum-clause-none c =
@@ -38,5 +43,6 @@ returns-in_err-names-clause-none c =
 pub returns-clause-some : goal.returns-clause-some
 returns-clause-some c =
     let read = rw take_rest at c.in_ok-sum.ensures.some in
-    rack_spelled c.args.line.now c.in_ok-rest.rest.now c.in_ok-sum.digits.now c.in_ok-end.end c.in-Ok.shape c.in_ok-sum.sum c.in_ok-names.names c.in_ok-rest.ensures (sym c.in_ok-end.ensures)
+    rack_spelled c.args.line.now c.in_ok-rest.rest.now c.in_ok-sum.digits.now c.in_ok-end.end c.in-Ok.shape c.in_ok-sum.sum c.in_ok-names.names
+    c.in_ok-rest.ensures (sym c.in_ok-end.ensures)
     c.in-Ok.ensures.shape.spelled read.1 c.in_ok-names.ensures.some.1

@@ -12,11 +12,16 @@ pub returns-in-Ok-clause-some : goal.returns-in-Ok-clause-some
 returns-in-Ok-clause-some c =
     let text = c.args.text.now in
     let end = c.in-Some.end in
-    rw take_rest ((record { few = c.in-Ok.ensures.batch.few; within = c.in-Ok.ensures.batch.within }), sym (take-append-drop end text) ∙ ap (λ l. l ++ drop end text) c.in-Ok.ensures.batch.spelled)
+    rw take_rest (
+      (record { few = c.in-Ok.ensures.batch.few; within = c.in-Ok.ensures.batch.within }),
+      sym (take-append-drop end text)
+          ∙ ap (λ l. l ++ drop end text) c.in-Ok.ensures.batch.spelled,
+    )
 
 pub returns-in_default-fault : goal.returns-in_default-fault
 returns-in_default-fault c = record {
   some = tt;
   none = λ batch rest is long.
-      faulty c.args.text.now rest batch c.args.count c.in-Some.end c.in-Err.fault is long c.in-Some.ensures.some.1 (c.in-Err.ensures.fault c.in_default-fault.not-NoMemory);
+      faulty c.args.text.now rest batch c.args.count c.in-Some.end c.in-Err.fault is long c.in-Some.ensures.some.1
+      (c.in-Err.ensures.fault c.in_default-fault.not-NoMemory);
 }

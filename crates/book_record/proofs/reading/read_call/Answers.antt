@@ -13,7 +13,9 @@ returns-in-None-clause-none c =
     no_batch c.args.text.now c.in-Some.end c.in-Some-number_after.count (sym c.position_of.ensures ∙ c.in-Some.is) count.0 count.1 none
 
 pub returns-in-None-call_of-clause-none : goal.returns-in-None-call_of-clause-none
-returns-in-None-call_of-clause-none c = no_call c.args.text.now c.in-Some.end (sym c.position_of.ensures ∙ c.in-Some.is) c.in_default-number_after.ensures.none c.in-None-call_of.ensures.none
+returns-in-None-call_of-clause-none c = no_call c.args.text.now c.in-Some.end (sym c.position_of.ensures ∙ c.in-Some.is) c.in_default-number_after.ensures.none
+    c.in-None-call_of.ensures.none
 
 pub returns-in-Some-call_of-clause-some : goal.returns-in-Some-call_of-clause-some
-returns-in-Some-call_of-clause-some c = rw take_rest (call_there c.in-Some-call_of.call c.args.text.now c.in-Some.end (sym c.position_of.ensures ∙ c.in-Some.is) c.in-Some-call_of.ensures.some)
+returns-in-Some-call_of-clause-some c = rw take_rest (call_there c.in-Some-call_of.call c.args.text.now c.in-Some.end (sym c.position_of.ensures ∙ c.in-Some.is)
+    c.in-Some-call_of.ensures.some)

@@ -7,4 +7,5 @@ returns-in-None-clause-none c =
     no_entry c.args.text.now c.in-Some.rest.now c.in-Some.session c.in-Some.ensures.some none c.args.limit
 
 pub returns-then-session-limit-clause-none : goal.returns-then-session-limit-clause-none
-returns-then-session-limit-clause-none c = no_such_session c.args.text.now c.in-Some.rest.now c.in-Some.session c.args.limit c.in-Some.ensures.some c.if-session-limit.true
+returns-then-session-limit-clause-none c = no_such_session c.args.text.now c.in-Some.rest.now c.in-Some.session c.args.limit c.in-Some.ensures.some
+    c.if-session-limit.true

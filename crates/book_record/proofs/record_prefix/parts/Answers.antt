@@ -13,7 +13,8 @@ pub returns-in_err-end-clause-none : goal.returns-in_err-end-clause-none
 returns-in_err-end-clause-none c =
     let none = rw take_rest at c.in_err-end.ensures in
     let here = byte_at sum_mark c.args.text.now c.in_ok-at.at (sym c.in_ok-at.ensures) in
-    rw c.from_residual-in_err-end.ensures (λ body line rest p q same. no_byte line_feed _ (sym none) line rest q (first_at sum_mark _ body _ _ here.1 p (sym here.2 ∙ same)).1)
+    rw c.from_residual-in_err-end.ensures
+    (λ body line rest p q same. no_byte line_feed _ (sym none) line rest q (first_at sum_mark _ body _ _ here.1 p (sym here.2 ∙ same)).1)
 
 pub returns-clause-some : goal.returns-clause-some
 returns-clause-some c =

@@ -28,7 +28,8 @@ returns c =
     let sum = c.sum_at.ensures in
     let due : c.as_slice.result.now ≡ hex8 c.sum_at.result = search rules in
     let same = slice_eq-Decides Decides-eqb found c.as_slice.result.now c.eq.result c.eq.ensures in
-    other_sum c.args.number c.args.text.now c.in-Some.lines.now found c.in-Some.rest.now front.0 front.1 front.2 (λ e. false≢true (sym c.if-eq.false ∙ same.1 (e ∙ ap hex8 (sym sum) ∙ sym due)))
+    other_sum c.args.number c.args.text.now c.in-Some.lines.now found c.in-Some.rest.now front.0 front.1 front.2
+    (λ e. false≢true (sym c.if-eq.false ∙ same.1 (e ∙ ap hex8 (sym sum) ∙ sym due)))
 
 pub returns-in_default : goal.returns-in_default
 returns-in_default c = c.without_sum.ensures c.args.number

@@ -14,4 +14,5 @@ returns c =
     let number : length c.history.result.now ≡ numbered (length h) = omega (arith, ap length c.history.ensures.history, c.history.ensures.few) in
     let front : c.in_ok-text.text.items ≡ head = search rules in
     let last : c.as_bytes.result.now ≡ last_lines (length h) = c.as_bytes.ensures.bytes ∙ c.last_lines.ensures (length h) number in
-    c.in_ok-extend_from_slice.ensures.items ∙ ap (λ (l : List ℕ). c.push_history.new.text.items ++ l) last ∙ ap (λ (l : List ℕ). l ++ last_lines (length h)) (c.in_ok-push_history.ensures ∙ ap (λ (l : List ℕ). l ++ texts 0 h) front)
+    c.in_ok-extend_from_slice.ensures.items ∙ ap (λ (l : List ℕ). c.push_history.new.text.items ++ l) last ∙ ap (λ (l : List ℕ). l ++ last_lines (length h))
+    (c.in_ok-push_history.ensures ∙ ap (λ (l : List ℕ). l ++ texts 0 h) front)

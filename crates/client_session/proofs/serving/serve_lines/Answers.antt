@@ -30,7 +30,8 @@ returns-in_err-n g c =
     let p = err_from_is_err_and c.from_residual-in_err-n.result c.from_residual-in_err-n.ensures.1 in
     let mid = c.next_line.new.self in
     rw (p.1, p.2) record {
-      session = λ told. stopped_reading 0 _ _ _ _ _ _ _ mid _ (Serving-next told (c.loop-found.invariant.0 told) c.in_ok-found.ensures.ok c.in_err-n.ensures.takes) c.in_err-n.ensures.err;
+      session = λ told. stopped_reading 0 _ _ _ _ _ _ _ mid _ (Serving-next told (c.loop-found.invariant.0 told) c.in_ok-found.ensures.ok
+          c.in_err-n.ensures.takes) c.in_err-n.ensures.err;
       asks = asks_all (stops_after c.loop-found.invariant.1 c.in_err-n.ensures.asks);
       loses = λ is. absurd (no_input _ is);
       beside = tells_more c.loop-found.invariant.2 c.send_replies_if_due.ensures.beside;
@@ -42,7 +43,8 @@ returns-in_err-ends g c =
     let mid = c.next_line.new.self in
     let e = c.in_err-ends.ensures in
     rw (p.1, p.2) record {
-      session = λ told. failed_turn 0 _ _ _ _ _ _ _ _ _ mid _ (Serving-next told (c.loop-found.invariant.0 told) c.in_ok-found.ensures.ok c.in_ok-n.ensures.takes) (omega (arith, c.in_ok-found.ensures.room)) e.err;
+      session = λ told. failed_turn 0 _ _ _ _ _ _ _ _ _ mid _ (Serving-next told (c.loop-found.invariant.0 told) c.in_ok-found.ensures.ok
+          c.in_ok-n.ensures.takes) (omega (arith, c.in_ok-found.ensures.room)) e.err;
       asks = asks_all (stops_after (gives_more c.loop-found.invariant.1 (rw c.in-Some.is at c.in_ok-n.ensures.asks)) e.asks);
       loses = λ is. e.loses (the_fault _ _ is);
       beside = tells_still (tells_more c.loop-found.invariant.2 c.send_replies_if_due.ensures.beside) e.beside;
@@ -53,7 +55,8 @@ returns-then-ends g c =
     let mid = c.next_line.new.self in
     let e = c.in_ok-ends.ensures in
     record {
-      session = λ told. held_by_bye _ _ _ _ _ _ _ _ mid c.turn.new.input _ _ _ (Serving-next told (c.loop-found.invariant.0 told) c.in_ok-found.ensures.ok c.in_ok-n.ensures.takes) (rw c.if-ends.true at e.ok) c.put.ensures;
+      session = λ told. held_by_bye _ _ _ _ _ _ _ _ mid c.turn.new.input _ _ _ (Serving-next told (c.loop-found.invariant.0 told) c.in_ok-found.ensures.ok
+          c.in_ok-n.ensures.takes) (rw c.if-ends.true at e.ok) c.put.ensures;
       asks = asks_all (stops_here None (gives_more (gives_more c.loop-found.invariant.1 (rw c.in-Some.is at c.in_ok-n.ensures.asks)) e.asks) (λ few. few));
       loses = λ is. absurd (cc);
       beside = tells_still (tells_more c.loop-found.invariant.2 c.send_replies_if_due.ensures.beside) e.beside;
@@ -63,7 +66,8 @@ pub loop-found-preserved : goal.loop-found-preserved
 loop-found-preserved g c =
     let mid = c.next_line.new.self in
     let e = c.in_ok-ends.ensures in (
-      λ told. Serving-turn _ _ _ _ _ _ _ _ mid c.turn.new.input _ _ _ (Serving-next told (c.loop-found.invariant.0 told) c.in_ok-found.ensures.ok c.in_ok-n.ensures.takes) (rw c.if-ends.false at e.ok) c.put.ensures,
+      λ told. Serving-turn _ _ _ _ _ _ _ _ mid c.turn.new.input _ _ _ (Serving-next told (c.loop-found.invariant.0 told) c.in_ok-found.ensures.ok
+          c.in_ok-n.ensures.takes) (rw c.if-ends.false at e.ok) c.put.ensures,
       gives_more (gives_more c.loop-found.invariant.1 (rw c.in-Some.is at c.in_ok-n.ensures.asks)) e.asks,
       tells_still (tells_more c.loop-found.invariant.2 c.send_replies_if_due.ensures.beside) e.beside,
     )
@@ -74,7 +78,8 @@ returns-in_default g c =
     let none = none_of _ c.in_default.not-Some in
     let end = rw none at c.in_ok-n.ensures.line in
     record {
-      session = λ told. held_at_end 0 _ _ _ _ _ _ mid _ (Serving-next told (c.loop-found.invariant.0 told) c.in_ok-found.ensures.ok c.in_ok-n.ensures.takes) end.0 end.1;
+      session = λ told. held_at_end 0 _ _ _ _ _ _ mid _ (Serving-next told (c.loop-found.invariant.0 told) c.in_ok-found.ensures.ok c.in_ok-n.ensures.takes)
+          end.0 end.1;
       asks = asks_all (stops_after c.loop-found.invariant.1 (rw none at c.in_ok-n.ensures.asks));
       loses = λ is. absurd (cc);
       beside = tells_more c.loop-found.invariant.2 c.send_replies_if_due.ensures.beside;

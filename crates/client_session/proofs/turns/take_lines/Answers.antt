@@ -21,7 +21,13 @@ pub returns-in_err-extend_from_slice-clause-err : goal.returns-in_err-extend_fro
 returns-in_err-extend_from_slice-clause-err g c =
     let p = err_from_is_err_and c.from_residual-in_err-extend_from_slice.result c.from_residual-in_err-extend_from_slice.ensures.1 in
     let got = LinesTaken-read _ _ _ _ _ _ _ _ _ c.loop.invariant.0 c.in_ok-n.ensures.takes in
-    rw (p.1, p.2) record { n = c.loop.counter; fewer = c.loop-test.true; taken = rw c.in_err-extend_from_slice.ensures.items got; at = c.in_ok-n.ensures.room.0 }
+    rw (p.1, p.2) record {
+      n = c.loop.counter;
+      fewer = c.loop-test.true;
+      taken = rw c.in_err-extend_from_slice.ensures.items got;
+      at =
+          c.in_ok-n.ensures.room.0;
+    }
 
 pub loop-preserved : goal.loop-preserved
 loop-preserved g c =

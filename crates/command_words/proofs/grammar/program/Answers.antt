@@ -5,4 +5,5 @@ use Rattle.command_words.proofs.grammar.program.Goals as goal
 
 pub loop-name-preserved : goal.loop-name-preserved
 loop-name-preserved c =
-    one_more_command top commands c.loop-name.name-index Plan c.loop-name.program c.in_ok-program.program c.loop-name-test.true c.loop-name.invariant c.in_ok-program.ensures
+    one_more_command top commands c.loop-name.name-index Plan c.loop-name.program c.in_ok-program.program c.loop-name-test.true c.loop-name.invariant
+    c.in_ok-program.ensures

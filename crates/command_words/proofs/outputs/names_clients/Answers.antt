@@ -6,4 +6,5 @@ use Rattle.command_words.proofs.outputs.names_clients.Goals as goal
 
 pub returns-in-Sessions : goal.returns-in-Sessions
 returns-in-Sessions c =
-    subst (λ (names : List Text). IsTrue c.are_client_names.result ↔ All IsClientName names) (c.clients.ensures ∙ ap clients_of (sym c.in-Sessions.is)) c.are_client_names.ensures
+    subst (λ (names : List Text). IsTrue c.are_client_names.result ↔ All IsClientName names) (c.clients.ensures ∙ ap clients_of (sym c.in-Sessions.is))
+    c.are_client_names.ensures

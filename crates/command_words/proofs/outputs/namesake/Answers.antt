@@ -13,7 +13,8 @@ returns-then-not-have_two_names-clause-some c =
     let other = c.index-others-k.result in
     let below : c.loop-k.k < length others = c.loop-k-test.true in
     let clash : HaveTwoNames other file → ⊥ = λ two. (let bad : true ≡ false = sym (c.have_two_names.ensures.1 two) ∙ c.if-not-have_two_names.true in cc) in
-    subst (λ (found : Option FileUse). MatchOption found ⊥ (λ x. HaveTwoNames x file → ⊥)) (sym (slice_get_read others (length others) c.loop-k.k other refl below c.index-others-k.is)) clash
+    subst (λ (found : Option FileUse). MatchOption found ⊥ (λ x. HaveTwoNames x file → ⊥))
+    (sym (slice_get_read others (length others) c.loop-k.k other refl below c.index-others-k.is)) clash
 
 pub returns-clause-none : goal.returns-clause-none
 returns-clause-none c =

@@ -12,9 +12,11 @@ use Rattle.command_words.proofs.reading.is_given.Goals as goal
 -- a row has the source of its entry
 source-rows : (found : Found) (id : Text) → option_and_then (λ (a : MatchedArg). a.source) (matched_of found id)
     ≡ option_and_then (λ (row : Row). row.source) (find (λ (row : Row). bytes_eq row.id id) (rows_of found))
-source-rows found id = go (find (λ (e : Entry). bytes_eq e.0.now id) found.entries.items) ∙ ap (option_and_then (λ (row : Row). row.source)) (sym (find_row found.entries.items id))
+source-rows found id = go (find (λ (e : Entry). bytes_eq e.0.now id) found.entries.items) ∙ ap (option_and_then (λ (row : Row). row.source))
+    (sym (find_row found.entries.items id))
   where
-    go : (o : Option Entry) → option_and_then (λ (a : MatchedArg). a.source) (option_map (λ (e : Entry). e.1) o) ≡ option_and_then (λ (row : Row). row.source) (option_map row_of o)
+    go : (o : Option Entry) → option_and_then (λ (a : MatchedArg). a.source) (option_map (λ (e : Entry). e.1) o) ≡ option_and_then (λ (row : Row). row.source)
+        (option_map row_of o)
     go None = refl
     go (Some e) = refl
 

@@ -16,7 +16,8 @@ in_text P None has = absurd has
 in_text P (Some t) has = (t, refl, has)
 
 -- a number that is there is what was read
-read : (id : Text) (last : ℕ) (found : Found) (r : Option ℕ) (n : ℕ) → last < 2 ^ 64 → ((t : List ℕ) → one_text found id ≡ Some t → ReadsOne from_str_gives-value.it t r)
+read : (id : Text) (last : ℕ) (found : Found) (r : Option ℕ) (n : ℕ) → last < 2 ^ 64
+    → ((t : List ℕ) → one_text found id ≡ Some t → ReadsOne from_str_gives-value.it t r)
     → HasNumeral id last (rows_of found) (Some n) → r ≡ Some n
 read id last found r n small reads has =
     let t = in_text _ (one_of id (rows_of found)) has in
@@ -44,13 +45,15 @@ returns-then-is_none c =
 pub returns-in-Some : goal.returns-in-Some
 returns-in-Some c =
     let found = found_of c.args.matches.now in
-    let t = read_text _ from_str_gives-value.it (one_text found c.args.id.now) c.get_one.result c.in-Some.number c.in-Some.is c.get_one.ensures.none c.get_one.ensures.value in
+    let t = read_text _ from_str_gives-value.it (one_text found c.args.id.now) c.get_one.result c.in-Some.number c.in-Some.is c.get_one.ensures.none
+    c.get_one.ensures.value in
     rw (sym (one_text-rows found c.args.id.now) ∙ t.1) (t.2.0.0.0, t.2.0.1, c.if-number-last.true)
 
 pub returns-in_default : goal.returns-in_default
 returns-in_default c = λ o has.
     let found = found_of c.args.matches.now in
-    let given = numbered c.args.id.now c.args.last (rows_of found) (λ none. some_there (λ s. s.now) c.get_str.result c.if-is_none.ensures (c.get_str.ensures ∙ first_value-rows found c.args.id.now ∙ none)) o has in
+    let given = numbered c.args.id.now c.args.last (rows_of found)
+    (λ none. some_there (λ s. s.now) c.get_str.result c.if-is_none.ensures (c.get_str.ensures ∙ first_value-rows found c.args.id.now ∙ none)) o has in
     let is : c.get_one.result ≡ Some given.0 = read c.args.id.now c.args.last found c.get_one.result given.0 (omega arith) c.get_one.ensures.value given.1 in
     elim c.in_default.branch [
       | in_default-via-in-Some+else-number-last w ↦

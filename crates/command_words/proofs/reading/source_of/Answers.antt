@@ -8,7 +8,8 @@ use Rattle.command_words.proofs.Wanted.{still_lacks}
 use Rattle.command_words.proofs.reading.source_of.Goals as goal
 
 -- without `--schedule` the batch is to be planned
-planned : (rows : List Row) → first_of (codes "schedule") rows ≡ None → (source : ScheduleSource Words) → HasSource rows source → (planning : Planning) × HasPlanning rows planning
+planned : (rows : List Row) → first_of (codes "schedule") rows ≡ None → (source : ScheduleSource Words) → HasSource rows source → (planning : Planning)
+    × HasPlanning rows planning
 planned rows none (Plan planning) has = (planning, has.1)
 planned rows none (Text file) has = absurd (let bad : None ≡ Some file = sym none ∙ has.0 in cc)
 

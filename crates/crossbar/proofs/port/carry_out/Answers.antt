@@ -24,7 +24,9 @@ carry_given-answered-requires c =
     let so_far = c.loop-byte.invariant in
     let now = c.in-Ok.ensures.text (take i bytes) so_far.ran.commands so_far.ran.spells in
     let fewer = fewer_enquiries (take i bytes ++ _ ∷ []) (drop (i + 1) bytes) (so_far.ran.commands ++ option_to_list c.in-Ok.given) c.requires.commands _ [] now
-    (subst (λ (b : List ℕ). Spells b c.requires.commands []) (sym (ap (λ t. t ++ drop (i + 1) bytes) (sym (take_more bytes i c.loop-byte-test.true)) ∙ take-append-drop (i + 1) bytes)) (spells_conversation bytes _ c.requires)) in
+    (subst (λ (b : List ℕ). Spells b c.requires.commands [])
+    (sym (ap (λ t. t ++ drop (i + 1) bytes) (sym (take_more bytes i c.loop-byte-test.true)) ∙ take-append-drop (i + 1) bytes))
+    (spells_conversation bytes _ c.requires)) in
     omega (arith, fewer, enquiries-append so_far.ran.commands (option_to_list c.in-Ok.given), so_far.count, c.requires.count, c.loop-byte.auto.replies)
 
 pub loop-byte-preserved : goal.loop-byte-preserved
@@ -38,4 +40,5 @@ loop-byte-preserved c =
 
 pub returns : goal.returns
 returns c =
-    carried_all _ _ _ _ _ _ _ _ c.loop-byte.invariant (take_all c.loop-byte.byte-index c.args.bytes.now c.loop-byte-test.false) c.requires c.loop-byte.auto.replies
+    carried_all _ _ _ _ _ _ _ _ c.loop-byte.invariant (take_all c.loop-byte.byte-index c.args.bytes.now c.loop-byte-test.false) c.requires
+    c.loop-byte.auto.replies

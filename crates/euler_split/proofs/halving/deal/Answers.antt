@@ -16,12 +16,16 @@ loop-place-preserved c =
         cost = omega (arith, so_far.cost, c.tick.ensures);
         counted = omega (arith, so_far.counted);
         rest = λ k past. get_or-set_other at.members at.left k _ 0 (λ on. omega (arith, so_far.counted)) ∙ so_far.rest k (omega arith);
-        dealt = rw (take_more_set at.members at.left _ (omega (arith, so_far.counted)), same) (dealt_left c.args.graph.now c.args.members.now at.place c.args.turns.now at.turns c.take_turn.new.turns _ _ c.requires.batch c.loop-place-test.true t_in so_far.dealt told.next (sym told.turn ∙ w.if-take_turn.true));
+        dealt = rw (take_more_set at.members at.left _ (omega (arith, so_far.counted)), same)
+            (dealt_left c.args.graph.now c.args.members.now at.place c.args.turns.now at.turns c.take_turn.new.turns _ _ c.requires.batch c.loop-place-test.true
+            t_in so_far.dealt told.next (sym told.turn ∙ w.if-take_turn.true));
       })
       | else-take_turn w ↦ rw (w.members-is, w.others-is, w.left-is, w.right-is) (record {
         cost = omega (arith, so_far.cost, c.tick.ensures);
         counted = omega (arith, so_far.counted);
         rest = λ k past. so_far.rest k (omega arith);
-        dealt = rw (take_more_set at.others at.right _ (omega (arith, so_far.counted)), same) (dealt_right c.args.graph.now c.args.members.now at.place c.args.turns.now at.turns c.take_turn.new.turns _ _ c.requires.batch c.loop-place-test.true t_in so_far.dealt told.next (sym told.turn ∙ w.if-take_turn.false));
+        dealt = rw (take_more_set at.others at.right _ (omega (arith, so_far.counted)), same)
+            (dealt_right c.args.graph.now c.args.members.now at.place c.args.turns.now at.turns c.take_turn.new.turns _ _ c.requires.batch
+            c.loop-place-test.true t_in so_far.dealt told.next (sym told.turn ∙ w.if-take_turn.false));
       })
     ]

@@ -18,5 +18,8 @@ loop-place-preserved c =
     let ends = ends_modules c.args.graph.now _ c.ends_of.result t_in c.ends_of.ensures in
     let low_zero : c.ends_of.result.0.«module» < MAX_MODULES = omega (arith, ends.0, module_in_low c.args.graph.now Zero _ c.requires.batch t_in) in
     let low_three : c.ends_of.result.1.«module» < MAX_MODULES = omega (arith, ends.1, module_in_low c.args.graph.now Three _ c.requires.batch t_in) in
-    let i = c.loop-place.invariant in
-    (omega (arith, i.0, c.tick.ensures), omega (arith, i.1, one_more _ _ low_zero low_three _ _ c.toggle.ensures.toggled), λ u v. rw (add-one, ← ends.0, ← ends.1) (grind (arith, nat_tests, c.toggle.ensures.toggled u v, i.2 u v)))
+    let i = c.loop-place.invariant in (
+      omega (arith, i.0, c.tick.ensures),
+      omega (arith, i.1, one_more _ _ low_zero low_three _ _ c.toggle.ensures.toggled),
+      λ u v. rw (add-one, ← ends.0, ← ends.1) (grind (arith, nat_tests, c.toggle.ensures.toggled u v, i.2 u v)),
+    )

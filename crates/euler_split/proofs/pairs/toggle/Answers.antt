@@ -15,4 +15,10 @@ returns-clause-toggled c u v =
 pub returns-clause-less : goal.returns-clause-less
 returns-clause-less c had =
     let mask = get_or c.args.masks.now c.args.module 0 in
-    rw (one_shl c.args.other 32 c.requires.other) (omega (arith, toggled_less mask c.args.other had, sum_by-set (λ x. x) c.args.masks.now c.args.module (bit_xor mask (2 ^ c.args.other)) 0 (search rules)))
+    rw (one_shl c.args.other 32 c.requires.other)
+    (omega (
+      arith,
+      toggled_less mask c.args.other had,
+      sum_by-set (λ x. x) c.args.masks.now c.args.module (bit_xor mask (2 ^ c.args.other)) 0
+          (search rules),
+    ))

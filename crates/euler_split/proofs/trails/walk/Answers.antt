@@ -10,7 +10,8 @@ returns-then-untaken-three-eq0-clause-walked c all x =
     ended all _ _ c.args.start c.args.first_left Three c.lowest-three.result across (none_three _ _ _ c.take.new.untaken.mirrored c.if-untaken-three-eq0.true)
 
 pub returns-clause-walked : goal.returns-clause-walked
-returns-clause-walked c all x = ended all _ _ c.args.start c.args.first_left Zero c.steps.zero (c.steps.invariant.even all x) (none_zero _ _ (omega (arith, c.steps-test.false)))
+returns-clause-walked c all x = ended all _ _ c.args.start c.args.first_left Zero c.steps.zero (c.steps.invariant.even all x)
+    (none_zero _ _ (omega (arith, c.steps-test.false)))
 
 pub steps-preserved : goal.steps-preserved
 steps-preserved c = record {

@@ -9,7 +9,8 @@ invariant-steps l = record {
   zero_in : l.zero < MAX_MODULES;
   cost : l.steps + pairs_left l.untaken.zero ≡ l.initial.steps + pairs_left l.initial.untaken.zero;
   less : (sum l.untaken.zero < sum l.initial.untaken.zero) ⊎ ((0 < get_or l.untaken.zero l.zero 0) × (sum l.untaken.zero ≡ sum l.initial.untaken.zero));
-  even : (all : ℕ → ℕ → Bool) → AreEven all l.start l.initial.untaken.zero l.initial.left_half (walk_surplus l.first_left l.start Zero l.start) → AreEven all l.start l.untaken.zero l.left_half (walk_surplus l.first_left l.start Zero l.zero);
+  even : (all : ℕ → ℕ → Bool) → AreEven all l.start l.initial.untaken.zero l.initial.left_half (walk_surplus l.first_left l.start Zero l.start)
+      → AreEven all l.start l.untaken.zero l.left_half (walk_surplus l.first_left l.start Zero l.zero);
 }
 
 abbrev pub decreases-steps : goal.decreases-steps

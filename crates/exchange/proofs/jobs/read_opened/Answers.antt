@@ -7,10 +7,12 @@ use Rattle.exchange.proofs.jobs.read_opened.Goals as goal
 pub returns-clause-contents : goal.returns-clause-contents
 returns-clause-contents g c =
     let holds = g.S.System.holds c.args.system.now in
-    subst (λ (names : Files (List ℕ)). AreContents holds (g.I.Read.remaining c.args.input.now) names (contents_in c.in_ok-contents.contents) (g.I.Read.remaining c.read_contents.new.input)) c.files.ensures c.in_ok-contents.ensures.contents
+    subst (λ (names : Files (List ℕ)). AreContents holds (g.I.Read.remaining c.args.input.now) names (contents_in c.in_ok-contents.contents)
+    (g.I.Read.remaining c.read_contents.new.input)) c.files.ensures c.in_ok-contents.ensures.contents
 
 pub returns-clause-scripts : goal.returns-clause-scripts
 returns-clause-scripts g c =
     let holds = g.S.System.holds c.args.system.now in
-    let are = subst (λ (names : Files (List ℕ)). AreContents holds (g.I.Read.remaining c.args.input.now) names (contents_in c.in_ok-contents.contents) (g.I.Read.remaining c.read_contents.new.input)) c.files.ensures c.in_ok-contents.ensures.contents in
+    let are = subst (λ (names : Files (List ℕ)). AreContents holds (g.I.Read.remaining c.args.input.now) names (contents_in c.in_ok-contents.contents)
+    (g.I.Read.remaining c.read_contents.new.input)) c.files.ensures c.in_ok-contents.ensures.contents in
     as_many holds _ _ _ _ are.8

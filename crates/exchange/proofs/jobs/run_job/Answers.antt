@@ -14,11 +14,19 @@ run_job_on-end-requires-clause-named g c = λ lifetimes bounds.
 
 pub returns-in-Err : goal.returns-in-Err
 returns-in-Err g c =
-    let given = given_by (g.I.Read.remaining c.args.input.now) (g.P.Ports.ways c.args.peers.now.ports) (clients_by (g.S.ClientFiles.says c.args.system.now) (g.S.ClientFiles.had c.args.system.now)) in
+    let given = given_by (g.I.Read.remaining c.args.input.now) (g.P.Ports.ways c.args.peers.now.ports)
+    (clients_by (g.S.ClientFiles.says c.args.system.now) (g.S.ClientFiles.had c.args.system.now)) in
     let was = g.P.Ports.ways c.args.peers.now.ports in
     let ends = ends_of c.args.peers.now.endings.items in
     record {
-      response = ([], Appends-nil _, tt, refused_so c.in-Err.missed (IsUnanswered was was ends) (IsJobCut (g.S.System.holds c.args.system.now) given c.args.request.now.job was ends) [] c.in-Err.ensures.note (refl, refl, none_served _ c.requires.unserved));
+      response = (
+        [],
+        Appends-nil _,
+        tt,
+        refused_so c.in-Err.missed (IsUnanswered was was ends)
+            (IsJobCut (g.S.System.holds c.args.system.now) given c.args.request.now.job was ends) [] c.in-Err.ensures.note
+            (refl, refl, none_served _ c.requires.unserved),
+      );
       note = none_of c.in-Err.missed c.in-Err.ensures.note;
       beside = inl refl;
       apart = tt;
@@ -27,12 +35,14 @@ returns-in-Err g c =
 
 pub returns : goal.returns
 returns g c =
-    let given = given_by (g.I.Read.remaining c.args.input.now) (g.P.Ports.ways c.args.peers.now.ports) (clients_by (g.S.ClientFiles.says c.args.system.now) (g.S.ClientFiles.had c.args.system.now)) in
+    let given = given_by (g.I.Read.remaining c.args.input.now) (g.P.Ports.ways c.args.peers.now.ports)
+    (clients_by (g.S.ClientFiles.says c.args.system.now) (g.S.ClientFiles.had c.args.system.now)) in
     let held = c.run_job_on-end in
     let files = contents_in c.in-Ok.read.1 in
     let rest = g.I.Read.remaining c.read_opened.new.input in
     record {
-      response = finish held.result.end c.finished.result _ _ (g.S.System.holds c.args.system.now) g.S.System.received c.args.request.now.job files rest given (g.P.Ports.ways held.new.peers.ports) (ends_of held.new.peers.endings.items) held.result.receipts held.result.lost
+      response = finish held.result.end c.finished.result _ _ (g.S.System.holds c.args.system.now) g.S.System.received c.args.request.now.job files rest given
+          (g.P.Ports.ways held.new.peers.ports) (ends_of held.new.peers.endings.items) held.result.receipts held.result.lost
           c.finished.ensures.answer c.in-Ok.ensures.contents held.ensures.response;
       note = c.finished.ensures.note;
       beside = beside_of _ _ c.args.request.now _ _ (λ overlap. (files, rest, c.in-Ok.ensures.contents, overlap)) held.ensures.beside;

@@ -29,12 +29,18 @@ returns-clause-arguments g c =
     let code = exit_status c.respond.result.code in
     let given = given_by input was (clients_by comes had) in
     kept (λ w. IsCutFor named (leaving holds received receipts was ways (ends_of endings)) (texts_of w.items) given before after)
-    (λ w. KeepsPromises named.leads (world_of (run_of holds input (Appends before after) (texts_of w.items) code) was ways (saved_by received receipts) (clients_of comes had endings)) (IsToldInPart before after)) c.args.arguments (λ w. texts_of w.items) named
-    (IsLeft holds received receipts ways (ends_of endings)) (IsNoneLeft receipts was ways (ends_of endings)) given (streams_of before after (g.E.Write.contents c.args.err.now) (g.E.Write.contents c.respond.new.err)) code
+    (λ w. KeepsPromises named.leads (world_of (run_of holds input (Appends before after) (texts_of w.items) code) was ways (saved_by received receipts)
+    (clients_of comes had endings)) (IsToldInPart before after)) c.args.arguments (λ w. texts_of w.items) named
+    (IsLeft holds received receipts ways (ends_of endings)) (IsNoneLeft receipts was ways (ends_of endings)) given
+    (streams_of before after (g.E.Write.contents c.args.err.now) (g.E.Write.contents c.respond.new.err)) code
     (λ w ends. keeps_promises _ ways received receipts comes had endings refl (λ job response is. is.1) (λ job response is. (is.0, is.2)) (λ none. none) ends)
-    (λ w unwritten cut. keeps_in_part (texts_of w.items) named ways given before after code received receipts comes had endings refl unwritten cut) c.respond.ensures.arguments
+    (λ w unwritten cut. keeps_in_part (texts_of w.items) named ways given before after code received receipts comes had endings refl unwritten cut)
+    c.respond.ensures.arguments
 
 pub returns-clause-none : goal.returns-clause-none
 returns-clause-none g c =
-    keeps_unread g.S.System.received c.respond.result.receipts (g.S.ClientFiles.says c.args.system.now) (g.S.ClientFiles.had c.args.system.now) c.respond.new.peers.endings.items (g.P.Ports.ways c.respond.new.peers.ports) c.args.arguments (g.S.System.holds c.args.system.now) (g.I.Read.remaining c.args.input.now)
-    (g.O.Write.contents c.args.out.now) (g.O.Write.contents c.respond.new.out) (g.P.Ports.ways c.args.peers.now.ports) (exit_status c.respond.result.code) c.respond.ensures.none
+    keeps_unread g.S.System.received c.respond.result.receipts (g.S.ClientFiles.says c.args.system.now) (g.S.ClientFiles.had c.args.system.now)
+    c.respond.new.peers.endings.items (g.P.Ports.ways c.respond.new.peers.ports) c.args.arguments (g.S.System.holds c.args.system.now)
+    (g.I.Read.remaining c.args.input.now)
+    (g.O.Write.contents c.args.out.now) (g.O.Write.contents c.respond.new.out) (g.P.Ports.ways c.args.peers.now.ports) (exit_status c.respond.result.code)
+    c.respond.ensures.none

@@ -4,7 +4,8 @@ use Rattle.exchange.proofs.responding.print_fault.Goals as goal
 
 pub returns-in-NoMemory-clause-done : goal.returns-in-NoMemory-clause-done
 returns-in-NoMemory-clause-done g c =
-    rw c.in-NoMemory.is (without_arguments c.refuse.result (g.O.Write.contents c.args.out.now) (g.O.Write.contents c.refuse.new.out) (g.E.Write.contents c.args.err.now) c.refuse.ensures.printed)
+    rw c.in-NoMemory.is (without_arguments c.refuse.result (g.O.Write.contents c.args.out.now) (g.O.Write.contents c.refuse.new.out)
+    (g.E.Write.contents c.args.err.now) c.refuse.ensures.printed)
 
 pub returns-in_ok-write-in-Clap-clause-done : goal.returns-in_ok-write-in-Clap-clause-done
 returns-in_ok-write-in-Clap-clause-done g c =

@@ -10,4 +10,5 @@ returns-in-Switch c = rw (c.requires.job, c.in-Switch.is) c.overlap_warning_of-i
 
 pub returns-in-Draw : goal.returns-in-Draw
 returns-in-Draw c =
-    rw (c.requires.job, c.in-Draw.is) (warning_by _ c.args.request.now c.wide_line.result (search rules) c.wide_line.ensures.whole (wide_by _ c.args.answer.now c.wide_line.result (rw c.in-Draw.is at c.requires.answer) (rw c.text.ensures at c.wide_line.ensures.wide)))
+    rw (c.requires.job, c.in-Draw.is) (warning_by _ c.args.request.now c.wide_line.result (search rules) c.wide_line.ensures.whole
+    (wide_by _ c.args.answer.now c.wide_line.result (rw c.in-Draw.is at c.requires.answer) (rw c.text.ensures at c.wide_line.ensures.wide)))

@@ -33,7 +33,8 @@ loop-digit-preserved c =
     let d = c.in_ok-value.value in
     let digit = c.in_ok-value.ensures.some in (
       next_power i v d c.loop-digit.invariant.0 digit.0,
-      take_more digits i 0 c.loop-digit-test.true ∙ ap (λ l. l ++ get_or digits i 0 ∷ []) c.loop-digit.invariant.1 ∙ ap (λ b. hex_digits i v ++ b ∷ []) digit.1 ∙ sym (hex_more i v d digit.0),
+      take_more digits i 0 c.loop-digit-test.true ∙ ap (λ l. l ++ get_or digits i 0 ∷ []) c.loop-digit.invariant.1 ∙ ap (λ b. hex_digits i v ++ b ∷ []) digit.1
+          ∙ sym (hex_more i v d digit.0),
     )
 
 pub returns-clause-some : goal.returns-clause-some

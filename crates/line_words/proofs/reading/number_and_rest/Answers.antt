@@ -9,7 +9,13 @@ pub returns-in_err-at-clause-none : goal.returns-in_err-at-clause-none
 returns-in_err-at-clause-none c = rw c.from_residual.ensures (λ n rest lt. no_end n space c.args.line.now rest lt space_ends (sym c.in_err-at.ensures))
 
 pub returns-in_err-n-clause-none : goal.returns-in_err-n-clause-none
-returns-in_err-n-clause-none c = rw c.from_residual-in_err-n.ensures (λ n rest lt. no_number n space c.in_ok-at.at c.args.line.now rest lt space_ends (first_from_position _ _ _ (sym c.in_ok-at.ensures)) c.in_err-n.ensures.none)
+returns-in_err-n-clause-none c = rw c.from_residual-in_err-n.ensures (λ n rest lt. no_number n space c.in_ok-at.at c.args.line.now rest lt space_ends
+    (first_from_position _ _ _ (sym c.in_ok-at.ensures)) c.in_err-n.ensures.none)
 
 pub returns-clause-some : goal.returns-clause-some
-returns-clause-some c = rw take_rest (c.in_ok-n.ensures.some.0, parts_at_first c.args.line.now space c.in_ok-at.at c.in_ok-n.n (first_from_position _ _ _ (sym c.in_ok-at.ensures)) c.in_ok-n.ensures.some.1)
+returns-clause-some c =
+    rw take_rest (
+      c.in_ok-n.ensures.some.0,
+      parts_at_first c.args.line.now space c.in_ok-at.at c.in_ok-n.n (first_from_position _ _ _ (sym c.in_ok-at.ensures))
+          c.in_ok-n.ensures.some.1,
+    )

@@ -16,7 +16,8 @@ pub returns-in-Started-false-clause-taken : goal.returns-in-Started-false-clause
 returns-in-Started-false-clause-taken c = rw (c.in-Started-false.is-0, c.in-Started-false.is-1) (search (rules, acknowledge))
 
 pub returns-in-Data-default-clause-taken : goal.returns-in-Data-default-clause-taken
-returns-in-Data-default-clause-taken c = rw c.in-Data-default.is-0 (data_goes_on _ _ _ _ c.if-count-lt-DATA_BITS.true c.with_bit-value.ensures.range c.with_bit-value.ensures.bits)
+returns-in-Data-default-clause-taken c =
+    rw c.in-Data-default.is-0 (data_goes_on _ _ _ _ c.if-count-lt-DATA_BITS.true c.with_bit-value.ensures.range c.with_bit-value.ensures.bits)
 
 pub returns-in-Data-false-clause-taken : goal.returns-in-Data-false-clause-taken
 returns-in-Data-false-clause-taken c =

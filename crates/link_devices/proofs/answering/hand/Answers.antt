@@ -38,7 +38,8 @@ returns-in-Err-clause-handled g c =
     record {
       reply = [];
       told = line.front;
-      handles = refuses c.in-Err.fault line.front line.missing _ ((c.in-Err.ensures.fault c.in-Err.fault).0 refl) (sym c.fault_line.ensures ∙ sym c.as_bytes.ensures.bytes ∙ line.bytes_are) c.in-Err.ensures.dropped;
+      handles = refuses c.in-Err.fault line.front line.missing _ ((c.in-Err.ensures.fault c.in-Err.fault).0 refl)
+          (sym c.fault_line.ensures ∙ sym c.as_bytes.ensures.bytes ∙ line.bytes_are) c.in-Err.ensures.dropped;
       written = appends_none _;
       beside = line.appended;
     }

@@ -20,4 +20,5 @@ returns-in-Err c = λ whole.
     let bytes = c.args.begun.now in
     let k = c.loop-byte.byte-index in
     let here = take_more bytes k 0 c.loop-byte-test.true ∙ ap (λ (t : List ℕ). t ++ get_or bytes k 0 ∷ []) (sym c.loop-byte.invariant.come) in
-    taken_there _ c.loop-byte.end (get_or bytes k 0) _ c.loop-byte.invariant.alive (subst IsPartial here (partial_front bytes (k + 1) whole)) c.in-Err.ensures.step.2
+    taken_there _ c.loop-byte.end (get_or bytes k 0) _ c.loop-byte.invariant.alive (subst IsPartial here (partial_front bytes (k + 1) whole))
+    c.in-Err.ensures.step.2

@@ -14,7 +14,8 @@ pub loop-byte-preserved : goal.loop-byte-preserved
 loop-byte-preserved c =
     let bytes = c.args.begun.now in
     let k = c.loop-byte.byte-index in
-    let more = more_begun c.loop-byte.reader c.feed.new.self (get_or bytes k 0) c.in-Ok-None.field-0 c.in-Ok-None.field-0-is c.loop-byte.invariant.front c.in-Ok-None.ensures.text in
+    let more = more_begun c.loop-byte.reader c.feed.new.self (get_or bytes k 0) c.in-Ok-None.field-0 c.in-Ok-None.field-0-is c.loop-byte.invariant.front
+    c.in-Ok-None.ensures.text in
     record {
       come = more ∙ ap (λ (t : List ℕ). t ++ get_or bytes k 0 ∷ []) c.loop-byte.invariant.come ∙ sym (take_more bytes k 0 c.loop-byte-test.true);
       front = c.feed.ensures.rest;

@@ -7,7 +7,8 @@ use Rattle.link_graph.proofs.OneFault.{only_memory}
 use Rattle.link_graph.proofs.checker.check_schedule.Goals as goal
 
 pub returns-in-Some-clause-accepted : goal.returns-in-Some-clause-accepted
-returns-in-Some-clause-accepted c = λ r. only_memory _ _ _ _ (λ real. rw (c.len-count.ensures.value, c.lists-lists.ensures) at c.in-Some.ensures.some) r.schedule r.certificate
+returns-in-Some-clause-accepted c = λ r. only_memory _ _ _ _ (λ real. rw (c.len-count.ensures.value, c.lists-lists.ensures) at c.in-Some.ensures.some)
+    r.schedule r.certificate
 
 pub returns-in_err-check_settings-clause-fault : goal.returns-in_err-check_settings-clause-fault
 returns-in_err-check_settings-clause-fault c =
@@ -24,13 +25,16 @@ returns-in_err-check_settings-clause-accepted c =
 pub returns-clause-shortest : goal.returns-clause-shortest
 returns-clause-shortest c =
     let s : IsScheduleOf c.args.batch.now c.args.schedule.now = rw c.lists-lists.ensures at c.in_ok-check_settings.ensures.ok in
-    let many : length c.args.schedule.now ≡ length c.lists-lists.result.now = ap length (sym c.lists-lists.ensures) ∙ length-map c.lists-lists.result.now (λ v. v.items) in
+    let many : length c.args.schedule.now ≡ length c.lists-lists.result.now = ap length (sym c.lists-lists.ensures) ∙ length-map c.lists-lists.result.now
+    (λ v. v.items) in
     on_ok_weaker c.check_certificate.result (λ ok. certified _ _ _ s (ok c.args.schedule.now s many)) c.check_certificate.ensures.ok
 
 pub returns-clause-accepted : goal.returns-clause-accepted
 returns-clause-accepted c = λ r.
-    let many : length c.args.schedule.now ≡ length c.lists-lists.result.now = ap length (sym c.lists-lists.ensures) ∙ length-map c.lists-lists.result.now (λ v. v.items) in
-    IfErr-weaker c.check_certificate.result _ _ (λ fault err. only_memory _ _ _ fault (λ real. err.1 c.args.schedule.now r.schedule many) r.schedule r.certificate) c.check_certificate.ensures.err
+    let many : length c.args.schedule.now ≡ length c.lists-lists.result.now = ap length (sym c.lists-lists.ensures) ∙ length-map c.lists-lists.result.now
+    (λ v. v.items) in
+    IfErr-weaker c.check_certificate.result _ _ (λ fault err. only_memory _ _ _ fault (λ real. err.1 c.args.schedule.now r.schedule many) r.schedule
+    r.certificate) c.check_certificate.ensures.err
 
 pub returns-in-Some-clause-schedule : goal.returns-in-Some-clause-schedule
 returns-in-Some-clause-schedule c = search rules

@@ -13,14 +13,17 @@ count_transfer-requires-clause-modules c = modules_of c.args.batch.now _ c.in-So
 
 pub count_transfer-requires-clause-room : goal.count_transfer-requires-clause-room
 count_transfer-requires-clause-room c =
-    room_left _ _ _ c.loop-t.invariant (omega (arith, members_few c.args.batch.now (take c.loop-t.t-index c.args.setting.now), length-take c.loop-t.t-index c.args.setting.now))
+    room_left _ _ _ c.loop-t.invariant
+    (omega (arith, members_few c.args.batch.now (take c.loop-t.t-index c.args.setting.now), length-take c.loop-t.t-index c.args.setting.now))
 
 pub loop-t-preserved : goal.loop-t-preserved
 loop-t-preserved c =
     elim c.match-transfer.branch [
       | in-Some w ↦
-          let here : slice_get c.args.batch.now (get_or c.args.setting.now c.loop-t.t-index 0) ≡ Some w.in-Some.transfer = sym c.transfer.ensures ∙ w.in-Some.is in
-          rw (w.counts-is, some_more c.args.batch.now c.args.setting.now c.loop-t.t-index 0 w.in-Some.transfer c.loop-t-test.true here) (w.count_transfer.ensures _ c.loop-t.invariant)
+          let here : slice_get c.args.batch.now (get_or c.args.setting.now c.loop-t.t-index 0) ≡ Some w.in-Some.transfer = sym c.transfer.ensures
+          ∙ w.in-Some.is in
+          rw (w.counts-is, some_more c.args.batch.now c.args.setting.now c.loop-t.t-index 0 w.in-Some.transfer c.loop-t-test.true here)
+          (w.count_transfer.ensures _ c.loop-t.invariant)
       | in_default w ↦
           let none : slice_get c.args.batch.now (get_or c.args.setting.now c.loop-t.t-index 0) ≡ None = sym c.transfer.ensures ∙ w.in_default.is in
           rw (w.counts-is, none_more c.args.batch.now c.args.setting.now c.loop-t.t-index 0 c.loop-t-test.true none, append-nil) c.loop-t.invariant

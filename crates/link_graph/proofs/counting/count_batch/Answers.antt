@@ -11,8 +11,12 @@ loop-transfer-init c = (no_counts, omega arith)
 pub count_transfer-requires-clause-room : goal.count_transfer-requires-clause-room
 count_transfer-requires-clause-room c =
     let items = c.as_slice-transfer-items in
-    room_left _ _ _ c.loop-transfer.invariant.0 (omega (arith, length-take c.loop-transfer.transfer-index items.result.now, rw (← items.ensures.value) at items.ensures.batch.few))
+    room_left _ _ _ c.loop-transfer.invariant.0
+    (omega (arith, length-take c.loop-transfer.transfer-index items.result.now, rw (← items.ensures.value) at items.ensures.batch.few))
 
 pub loop-transfer-preserved : goal.loop-transfer-preserved
-loop-transfer-preserved c =
-    (subst (λ (xs : List Transfer). AreCounts c.count_transfer.new.counts xs) (sym (take_more _ _ _ c.loop-transfer-test.true)) (c.count_transfer.ensures _ c.loop-transfer.invariant.0), omega (arith, c.loop-transfer.invariant.1, c.tick.ensures))
+loop-transfer-preserved c = (
+  subst (λ (xs : List Transfer). AreCounts c.count_transfer.new.counts xs) (sym (take_more _ _ _ c.loop-transfer-test.true))
+      (c.count_transfer.ensures _ c.loop-transfer.invariant.0),
+  omega (arith, c.loop-transfer.invariant.1, c.tick.ensures),
+)

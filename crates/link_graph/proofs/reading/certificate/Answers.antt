@@ -21,7 +21,8 @@ pub returns-then-eq-clause-text : goal.returns-then-eq-clause-text
 returns-then-eq-clause-text c =
     let none : c.in-Some.line.now ≡ none_line = search rules in
     let end : length c.in-Some.rest.now ≡ 0 = grind (arith, common_steps) in
-    one_text c.args.text.now c.in-Some.line.now c.in-Some.rest.now c.in-Some.ensures.some.1 end ∙ ap (λ (l : List ℕ). text_of (l ∷ [])) none ∙ sym (ap (λ (named : Naming). text_of (naming_lines named.link named.transfers)) c.none.ensures)
+    one_text c.args.text.now c.in-Some.line.now c.in-Some.rest.now c.in-Some.ensures.some.1 end ∙ ap (λ (l : List ℕ). text_of (l ∷ [])) none
+    ∙ sym (ap (λ (named : Naming). text_of (naming_lines named.link named.transfers)) c.none.ensures)
 
 pub returns-in_default-busiest_link-clause-err : goal.returns-in_default-busiest_link-clause-err
 returns-in_default-busiest_link-clause-err c =
@@ -31,4 +32,5 @@ returns-in_default-busiest_link-clause-err c =
 pub returns-in_err-certificate-clause-err : goal.returns-in_err-certificate-clause-err
 returns-in_err-certificate-clause-err c =
     let p = err_from_is_err_and c.from_residual.result c.from_residual.ensures.1 in
-    rw (p.1, p.2) (named_fault c.args.above c.args.text.now c.in-Some.line.now c.in-Some.rest.now c.in-Some-busiest_link.link c.in_err-certificate.field-0.0 c.in-Some.ensures.some c.in-Some-busiest_link.ensures.some c.in_err-certificate.ensures.err)
+    rw (p.1, p.2) (named_fault c.args.above c.args.text.now c.in-Some.line.now c.in-Some.rest.now c.in-Some-busiest_link.link c.in_err-certificate.field-0.0
+    c.in-Some.ensures.some c.in-Some-busiest_link.ensures.some c.in_err-certificate.ensures.err)

@@ -10,4 +10,8 @@ returns-in_err-at-clause-none c = rw c.from_residual.ensures (lacks_from_none c.
 pub returns-clause-some : goal.returns-clause-some
 returns-clause-some c =
     let at = sym c.in_ok-at.ensures in
-    rw take_rest (lacks_before c.args.text.now line_feed c.in_ok-at.at at, sym (take-append-drop c.in_ok-at.at c.args.text.now) ∙ ap (λ (x : List ℕ). take c.in_ok-at.at c.args.text.now ++ x) (parts_at c.args.text.now line_feed c.in_ok-at.at at))
+    rw take_rest (
+      lacks_before c.args.text.now line_feed c.in_ok-at.at at,
+      sym (take-append-drop c.in_ok-at.at c.args.text.now)
+          ∙ ap (λ (x : List ℕ). take c.in_ok-at.at c.args.text.now ++ x) (parts_at c.args.text.now line_feed c.in_ok-at.at at),
+    )

@@ -9,13 +9,16 @@ use Rattle.link_graph.proofs.writing.settings_text.Goals as goal
 pub loop-setting-preserved : goal.loop-setting-preserved
 loop-setting-preserved c =
     let more = more_lines c.args.settings.now c.loop-setting.setting-index c.setting-item.result c.loop-setting-test.true c.setting-item.is in
-    let pushed : c.push_line.new.text.items ≡ c.loop-setting.text.items ++ text_of (setting_line c.setting-item.result.items ∷ []) = rw c.deref.ensures.value at c.in_ok-push_line.ensures in
-    pushed ∙ ap (λ (x : List ℕ). x ++ text_of (setting_line c.setting-item.result.items ∷ [])) c.loop-setting.invariant ∙ append_assoc (c.into_bytes-text.result.items) _ _ ∙ ap (λ (x : List ℕ). c.into_bytes-text.result.items ++ x) (sym more)
+    let pushed : c.push_line.new.text.items ≡ c.loop-setting.text.items ++ text_of (setting_line c.setting-item.result.items ∷ []) = rw c.deref.ensures.value
+    at c.in_ok-push_line.ensures in
+    pushed ∙ ap (λ (x : List ℕ). x ++ text_of (setting_line c.setting-item.result.items ∷ [])) c.loop-setting.invariant
+    ∙ append_assoc (c.into_bytes-text.result.items) _ _ ∙ ap (λ (x : List ℕ). c.into_bytes-text.result.items ++ x) (sym more)
 
 pub returns : goal.returns
 returns c =
     let all = take_all c.loop-setting.setting-index c.args.settings.now c.loop-setting-test.false in
-    let e : c.loop-setting.text.items ≡ c.into_bytes-text.result.items ++ text_of (map setting_line (lists_of c.args.settings.now)) = rw all at c.loop-setting.invariant in
+    let e : c.loop-setting.text.items ≡ c.into_bytes-text.result.items ++ text_of (map setting_line (lists_of c.args.settings.now)) = rw all
+    at c.loop-setting.invariant in
     let head = c.in_ok-format.ensures in
     let same = c.into_bytes-text.ensures in
     grind (arith, common_steps)

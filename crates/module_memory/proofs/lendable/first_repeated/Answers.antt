@@ -1,5 +1,5 @@
 use Rattle.std.proofs.Common.{rules}
-use Rattle.module_memory.specs.declared.lendable.TheConstants.{MAX_RACK_BLOCKS}
+use Rattle.batch.specs.declared.limits.TheConstants.{MAX_RACK_BLOCKS}
 use Rattle.module_memory.proofs.Repeats.{none_come, one_more}
 use Rattle.module_memory.proofs.lendable.first_repeated.Goals as goal
 

@@ -9,7 +9,8 @@ use Rattle.module_memory.proofs.placing.sources_of.Goals as goal
 pub loop-transfer-init : goal.loop-transfer-init
 loop-transfer-init c =
     let shape = c.args.shape in
-    let count : c.modules.result * c.blocks-2.result ≡ shape.modules * shape.blocks = ap₂ (λ (x y : ℕ). x * y) c.modules.ensures.value c.blocks-2.ensures.value in
+    let count : c.modules.result * c.blocks-2.result ≡ shape.modules * shape.blocks = ap₂ (λ (x y : ℕ). x * y) c.modules.ensures.value
+    c.blocks-2.ensures.value in
     subst (AreSourcesUpTo shape c.args.batch.now 0) (sym (c.in_ok-sources.ensures ∙ ap (range_with_len 0) count)) (own_sources shape c.args.batch.now)
 
 pub loop-transfer-preserved : goal.loop-transfer-preserved
@@ -21,7 +22,8 @@ loop-transfer-preserved c =
     let to : c.destination.result ≡ destination_at ts n = c.destination.ensures ∙ ap (λ (x : List Transfer). destination_of (transfer_at x n)) same in
     let from : c.source.result ≡ source_at ts n = c.source.ensures ∙ ap (λ (x : List Transfer). source_of (transfer_at x n)) same in
     sources_more c.args.shape ts n c.block_index-to.result c.block_index.result c.loop-transfer.sources.items below c.requires.fits c.requires.apart
-    (c.block_index-to.ensures.value ∙ ap (place_index c.args.shape) to) (c.block_index.ensures.value ∙ ap (place_index c.args.shape) from) c.loop-transfer.invariant
+    (c.block_index-to.ensures.value ∙ ap (place_index c.args.shape) to) (c.block_index.ensures.value ∙ ap (place_index c.args.shape) from)
+    c.loop-transfer.invariant
 
 pub returns : goal.returns
 returns c =

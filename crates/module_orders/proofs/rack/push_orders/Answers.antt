@@ -32,7 +32,8 @@ loop-t-preserved c =
     let pushed : c.push.new.self ≡ module_told c.index_mut.result.now.«module» (c.index_mut.result.now.orders ++ o ∷ []) = c.in_ok-push.ensures in
     record {
       all = length-set now.modules.items at c.push.new.self ∙ now.invariant.all;
-      told = λ f are. told_more changed c.args.setting end batch numbers i n f now.modules.items at o c.index_mut.result.now c.push.new.self c.loop-t-test.true refl (c.module_of.ensures ∙ ap (module_at end) is_t) order low was pushed (now.invariant.told f are);
+      told = λ f are. told_more changed c.args.setting end batch numbers i n f now.modules.items at o c.index_mut.result.now c.push.new.self c.loop-t-test.true
+          refl (c.module_of.ensures ∙ ap (module_at end) is_t) order low was pushed (now.invariant.told f are);
     }
 
 pub returns : goal.returns

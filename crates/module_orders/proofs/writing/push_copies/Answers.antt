@@ -13,11 +13,15 @@ loop-block-preserved c =
     let p = up_in c.args.copied.now in
     elim c.if-copied-block.branch [
       | then-copied-block+in_ok-write w ↦
-          let put : string_bytes c.if-copied-block.text ≡ string_bytes c.loop-block.text ++ ended (copy_line n) = ap (λ (s : String Global). string_bytes s) w.text-is ∙ w.in_ok-write.ensures.bytes in
-          then_adds (string_bytes c.args.text.now) (string_bytes c.loop-block.text) (string_bytes c.if-copied-block.text) _ (ended (copy_line n)) _ c.loop-block.invariant put (number_up p n w.if-copied-block.true)
+          let put : string_bytes c.if-copied-block.text ≡ string_bytes c.loop-block.text ++ ended (copy_line n) = ap (λ (s : String Global). string_bytes s)
+          w.text-is ∙ w.in_ok-write.ensures.bytes in
+          then_adds (string_bytes c.args.text.now) (string_bytes c.loop-block.text) (string_bytes c.if-copied-block.text) _ (ended (copy_line n)) _
+          c.loop-block.invariant put (number_up p n w.if-copied-block.true)
       | else-copied-block w ↦
-          ap (λ (s : String Global). string_bytes s) w.text-is ∙ c.loop-block.invariant ∙ ap (λ (ns : List ℕ). string_bytes c.args.text.now ++ text_of (map copy_line ns)) (sym (number_down p n w.if-copied-block.false))
+          ap (λ (s : String Global). string_bytes s) w.text-is ∙ c.loop-block.invariant
+          ∙ ap (λ (ns : List ℕ). string_bytes c.args.text.now ++ text_of (map copy_line ns)) (sym (number_down p n w.if-copied-block.false))
     ]
 
 pub returns : goal.returns
-returns c = c.loop-block.invariant ∙ ap (λ (ns : List ℕ). string_bytes c.args.text.now ++ text_of (map copy_line ns)) (numbers_up-all c.args.copied.now c.loop-block.block-counter (omega arith))
+returns c = c.loop-block.invariant ∙ ap (λ (ns : List ℕ). string_bytes c.args.text.now ++ text_of (map copy_line ns))
+    (numbers_up-all c.args.copied.now c.loop-block.block-counter (omega arith))

@@ -20,7 +20,11 @@ returns c =
     let many : c.count_of-copies.result ≡ length copies = c.count_of-copies.ensures ∙ ap (count_by (λ up. up)) flags ∙ count-copy_flags told.orders in
     let orders : length c.orders-2.result.now ≡ length told.orders = ap (length {A = Order}) c.orders-2.ensures.orders in
     let bytes = c.in_ok-write.ensures.bytes in
-    let first : string_bytes c.write.new.self ≡ string_bytes c.args.text.now ++ ended (module_line told.«module» (length copies) (length told.orders)) = grind (arith, common_steps) in
+    let first : string_bytes c.write.new.self ≡ string_bytes c.args.text.now ++ ended (module_line told.«module» (length copies) (length told.orders)) =
+    grind (arith, common_steps) in
     let then_more : string_bytes c.push_copies.new.text ≡ string_bytes c.write.new.self ++ text_of (map copy_line copies) =
-    c.in_ok-push_copies.ensures ∙ ap (λ (ns : List ℕ). string_bytes c.write.new.self ++ text_of (map copy_line ns)) (ap numbers_up flags ∙ numbers_up-copy_flags told.orders) in
-    on_ok_weaker c.push_orders.result (λ p. module_adds (string_bytes c.args.text.now) (string_bytes c.write.new.self) (string_bytes c.push_copies.new.text) (string_bytes c.push_orders.new.text) told first then_more (p ∙ ap (λ (os : List Order). string_bytes c.push_copies.new.text ++ text_of (map order_line os)) c.orders-3.ensures.orders)) c.push_orders.ensures
+    c.in_ok-push_copies.ensures ∙ ap (λ (ns : List ℕ). string_bytes c.write.new.self ++ text_of (map copy_line ns))
+    (ap numbers_up flags ∙ numbers_up-copy_flags told.orders) in
+    on_ok_weaker c.push_orders.result (λ p. module_adds (string_bytes c.args.text.now) (string_bytes c.write.new.self) (string_bytes c.push_copies.new.text)
+    (string_bytes c.push_orders.new.text) told first then_more
+    (p ∙ ap (λ (os : List Order). string_bytes c.push_copies.new.text ++ text_of (map order_line os)) c.orders-3.ensures.orders)) c.push_orders.ensures

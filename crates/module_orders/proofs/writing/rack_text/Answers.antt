@@ -19,17 +19,24 @@ loop-module-preserved c =
     elim c.if-is_told.branch [
       | then-is_told+in_ok-push_module w ↦
           let up : p x ≡ true = sym c.is_told.ensures ∙ w.if-is_told.true in
-          let put : string_bytes c.if-is_told.text ≡ string_bytes c.loop-module.text ++ text_of (told_lines x) = ap (λ (s : String Global). string_bytes s) w.text-is ∙ w.in_ok-push_module.ensures in
-          then_adds (string_bytes c.in_ok-text.text) (string_bytes c.loop-module.text) (string_bytes c.if-is_told.text) _ (text_of (told_lines x)) _ c.loop-module.invariant put (module_more p modules i x c.loop-module-test.true c.module-item.is up)
+          let put : string_bytes c.if-is_told.text ≡ string_bytes c.loop-module.text ++ text_of (told_lines x) = ap (λ (s : String Global). string_bytes s)
+          w.text-is ∙ w.in_ok-push_module.ensures in
+          then_adds (string_bytes c.in_ok-text.text) (string_bytes c.loop-module.text) (string_bytes c.if-is_told.text) _ (text_of (told_lines x)) _
+          c.loop-module.invariant put (module_more p modules i x c.loop-module-test.true c.module-item.is up)
       | else-is_told w ↦
           let down : p x ≡ false = sym c.is_told.ensures ∙ w.if-is_told.false in
-          ap (λ (s : String Global). string_bytes s) w.text-is ∙ c.loop-module.invariant ∙ ap (λ (ms : List ModuleTold). string_bytes c.in_ok-text.text ++ text_of (flat_map told_lines ms)) (sym (module_skip p modules i x c.loop-module-test.true c.module-item.is down))
+          ap (λ (s : String Global). string_bytes s) w.text-is ∙ c.loop-module.invariant
+          ∙ ap (λ (ms : List ModuleTold). string_bytes c.in_ok-text.text ++ text_of (flat_map told_lines ms))
+          (sym (module_skip p modules i x c.loop-module-test.true c.module-item.is down))
     ]
 
 pub returns : goal.returns
 returns c =
     let modules = c.args.modules.now in
     let all : take c.loop-module.module-index modules ≡ modules = take_all c.loop-module.module-index modules c.loop-module-test.false in
-    let text : string_bytes c.loop-module.text ≡ string_bytes c.in_ok-text.text ++ text_of (flat_map told_lines (filter (is_told c.args.only) modules)) = rw all at c.loop-module.invariant in
-    let head : string_bytes c.in_ok-text.text ≡ ended (modules_line c.count_told-count.result c.args.settings) = grind (arith, common_steps, c.in_ok-text.ensures.ok) in
-    ap (λ (v : Vec ℕ Global). v.items) c.into_bytes.ensures.value ∙ rack_adds c.args.only c.args.settings c.count_told-count.result modules (string_bytes c.in_ok-text.text) (string_bytes c.loop-module.text) c.count_told-count.ensures head text
+    let text : string_bytes c.loop-module.text ≡ string_bytes c.in_ok-text.text ++ text_of (flat_map told_lines (filter (is_told c.args.only) modules)) = rw all
+    at c.loop-module.invariant in
+    let head : string_bytes c.in_ok-text.text ≡ ended (modules_line c.count_told-count.result c.args.settings) =
+    grind (arith, common_steps, c.in_ok-text.ensures.ok) in
+    ap (λ (v : Vec ℕ Global). v.items) c.into_bytes.ensures.value ∙ rack_adds c.args.only c.args.settings c.count_told-count.result modules
+    (string_bytes c.in_ok-text.text) (string_bytes c.loop-module.text) c.count_told-count.ensures head text

@@ -5,4 +5,5 @@ pub halve-requires-clause-three_pairs : goal.halve-requires-clause-three_pairs
 halve-requires-clause-three_pairs c = joined_pairs _ _ c.join.ensures
 
 pub returns : goal.returns
-returns c = halves_are c.args.moves.now c.pair_at_modules.new.partners c.join.new.partners c.halve.new.halves c.pair_at_modules.ensures c.join.ensures c.halve.ensures
+returns c = halves_are c.args.moves.now c.pair_at_modules.new.partners c.join.new.partners c.halve.new.halves c.pair_at_modules.ensures c.join.ensures
+    c.halve.ensures

@@ -6,7 +6,8 @@ use Rattle.move_directions.proofs.directing.transfers.Goals as goal
 
 pub loop-t-preserved : goal.loop-t-preserved
 loop-t-preserved c =
-    rw (c.in_ok-push.ensures.items, c.directed.ensures, c.unwrap_or.ensures) (one_directed _ _ _ _ _ c.loop-t-test.true (c.requires.halves.opposed _ c.loop-t-test.true) c.loop-t.invariant)
+    rw (c.in_ok-push.ensures.items, c.directed.ensures, c.unwrap_or.ensures)
+    (one_directed _ _ _ _ _ c.loop-t-test.true (c.requires.halves.opposed _ c.loop-t-test.true) c.loop-t.invariant)
 
 pub returns : goal.returns
 returns c =

@@ -6,9 +6,12 @@ use Rattle.named_files.proofs.contents.read_files.Goals as goal
 
 pub loop-name-preserved : goal.loop-name-preserved
 loop-name-preserved g c =
-    let pushed = pushed_items c.push.result c.map_err.result c.loop-name.files.items c.push.new.self.items c.in_ok-file.file c.push.ensures.items c.map_err.ensures.variant (ap is_ok c.in_ok-map_err.was) in
+    let pushed = pushed_items c.push.result c.map_err.result c.loop-name.files.items c.push.new.self.items c.in_ok-file.file c.push.ensures.items
+    c.map_err.ensures.variant (ap is_ok c.in_ok-map_err.was) in
     let grown = mapped_more (λ (v : Vec ℕ Global). v.items) c.loop-name.files.items c.push.new.self.items c.in_ok-file.file pushed in
-    read_one_more (g.S.System.holds c.args.system.now) (g.I.Read.remaining c.args.input.now) (g.I.Read.remaining c.loop-name.input) (g.I.Read.remaining c.read_file.new.input) c.args.names.now (map (λ (v : Vec ℕ Global). v.items) c.loop-name.files.items) _ c.loop-name.name-index c.name-item.result c.in_ok-file.file.items
+    read_one_more (g.S.System.holds c.args.system.now) (g.I.Read.remaining c.args.input.now) (g.I.Read.remaining c.loop-name.input)
+    (g.I.Read.remaining c.read_file.new.input) c.args.names.now (map (λ (v : Vec ℕ Global). v.items) c.loop-name.files.items) _ c.loop-name.name-index
+    c.name-item.result c.in_ok-file.file.items
     c.loop-name-test.true c.name-item.is grown c.loop-name.invariant c.in_ok-file.ensures.content
 
 pub read_file-requires-after_bounds : goal.read_file-requires-after_bounds

@@ -4,4 +4,5 @@ use Rattle.named_files.proofs.contents.read_files.Given as goal
 
 abbrev pub invariant-loop-name : goal.invariant-loop-name
 invariant-loop-name g l =
-    AreRead (g.S.System.holds l.system) (g.I.Read.remaining l.fn.input) (take l.name-index l.names) (map (λ file. file.items) l.files.items) (g.I.Read.remaining l.input)
+    AreRead (g.S.System.holds l.system) (g.I.Read.remaining l.fn.input) (take l.name-index l.names) (map (λ file. file.items) l.files.items)
+    (g.I.Read.remaining l.input)

@@ -6,4 +6,5 @@ use Rattle.peek_poke.proofs.bit_line.read.Given as goal
 
 -- the bits so far have been fed, and they aren't the whole packet
 abbrev pub invariant-loop-bit : goal.invariant-loop-bit
-invariant-loop-bit l = (packet : Packet) → IsPacket packet → l.bits ≡ packet_bits packet → (l.bit-index < length l.bits) × (l.reader ≡ begun (take l.bit-index l.bits))
+invariant-loop-bit l = (packet : Packet) → IsPacket packet → l.bits ≡ packet_bits packet → (l.bit-index < length l.bits)
+    × (l.reader ≡ begun (take l.bit-index l.bits))

@@ -15,7 +15,8 @@ pub returns-in_err-last-clause-broken : goal.returns-in_err-last-clause-broken
 returns-in_err-last-clause-broken g c =
     let p = err_from_is_err_and c.from_residual-in_err-last.result c.from_residual-in_err-last.ensures.1 in
     let front = c.in_ok-send_front.ensures in
-    rw (p.1) (after_front g.W.Wire.carried _ _ _ _ (POKE_BYTES - 1) c.poke_bytes-bytes.result _ [] c.poke_bytes-bytes.ensures (omega arith) (c.in_err-last.ensures.kept ∙ front.carried) (ap (λ (p : Pending). p.taken) front.sent))
+    rw (p.1) (after_front g.W.Wire.carried _ _ _ _ (POKE_BYTES - 1) c.poke_bytes-bytes.result _ [] c.poke_bytes-bytes.ensures (omega arith)
+    (c.in_err-last.ensures.kept ∙ front.carried) (ap (λ (p : Pending). p.taken) front.sent))
 
 pub returns-clause-taken : goal.returns-clause-taken
 returns-clause-taken g c = grind (arith, common_steps)

@@ -10,7 +10,8 @@ pub returns-in-Ok-clause-one : goal.returns-in-Ok-clause-one
 returns-in-Ok-clause-one c =
     let Is = IsChecked widest c.args.batch.now c.args.schedule.now in
     IfOk-weaker c.answer_texts.result Is (IsOnly Is)
-    (λ p is other. one_verdict widest widest_shape c.args.batch.now c.args.schedule.now p other is) (c.answer_texts.ensures c.args.batch.now c.args.schedule.now c.in-Ok.ensures.texts)
+    (λ p is other. one_verdict widest widest_shape c.args.batch.now c.args.schedule.now p other is)
+    (c.answer_texts.ensures c.args.batch.now c.args.schedule.now c.in-Ok.ensures.texts)
 
 pub returns-in-Err-clause-checked : goal.returns-in-Err-clause-checked
 returns-in-Err-clause-checked c =

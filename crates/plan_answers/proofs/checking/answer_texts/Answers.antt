@@ -9,7 +9,8 @@ returns-in_ok-line-in-Ok c batch schedule says =
     let texts = c.args.texts.now in
     let count = c.in-Ok.settings in
     let line = c.done.ensures.text ∙ ap (λ v. v.items) c.into_bytes.ensures.value ∙ c.in_ok-line-in-Ok.ensures.ok in
-    shortest count (shown_from widest batch schedule texts.batch texts.schedule texts.certificate count says c.in-Ok.ensures.certified c.in-Ok.ensures.settings) line c.done.ensures.status
+    shortest count (shown_from widest batch schedule texts.batch texts.schedule texts.certificate count says c.in-Ok.ensures.certified c.in-Ok.ensures.settings)
+    line c.done.ensures.status
 
 pub returns-in_ok-answer-in-Err : goal.returns-in_ok-answer-in-Err
 returns-in_ok-answer-in-Err c batch schedule says =

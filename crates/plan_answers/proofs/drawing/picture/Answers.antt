@@ -20,7 +20,9 @@ returns-clause-drawn c =
     let read = c.in_ok-texts.texts in
     let range = c.in_ok-range.range in
     let its = c.in_ok-texts.ensures in
-    IfOk-weaker c.draw_range.result (λ text. (verdict : Verdict) × (shown : ShownSettings) × IsVerdict read.batch read.schedule read.certificate verdict × AreShown range (length read.schedule) shown × (string_bytes text ≡ picture_of read.batch read.schedule verdict shown)) (λ text. IsDrawing widest c.args.batch.now c.args.schedule.now (bytes_of c.args.settings) (string_bytes text))
+    IfOk-weaker c.draw_range.result (λ text. (verdict : Verdict) × (shown : ShownSettings) × IsVerdict read.batch read.schedule read.certificate verdict
+    × AreShown range (length read.schedule) shown × (string_bytes text ≡ picture_of read.batch read.schedule verdict shown))
+    (λ text. IsDrawing widest c.args.batch.now c.args.schedule.now (bytes_of c.args.settings) (string_bytes text))
     (λ text d. record {
       transfers = read.batch;
       settings = read.schedule;
@@ -38,5 +40,7 @@ returns-clause-wrong c =
     let read = c.in_ok-texts.texts in
     let range = c.in_ok-range.range in
     let its = c.in_ok-texts.ensures in
-    IfErr-weaker c.draw_range.result (λ e. e ≢ NoMemory → (k : ℕ) × (e ≡ NoSetting k) × IsOutside range (length read.schedule) k) (λ e. e ≢ NoMemory → IsFirstUndrawn widest c.args.batch.now c.args.schedule.now (bytes_of c.args.settings) e)
-    (λ e wrong real. no_setting range read.batch read.schedule (wrong real).0 c.in_ok-range.ensures.some (record { certificate = read.certificate; texts = its.texts; valid = its.valid }) (wrong real).2 (wrong real).1) c.draw_range.ensures.outside
+    IfErr-weaker c.draw_range.result (λ e. e ≢ NoMemory → (k : ℕ) × (e ≡ NoSetting k) × IsOutside range (length read.schedule) k)
+    (λ e. e ≢ NoMemory → IsFirstUndrawn widest c.args.batch.now c.args.schedule.now (bytes_of c.args.settings) e)
+    (λ e wrong real. no_setting range read.batch read.schedule (wrong real).0 c.in_ok-range.ensures.some
+    (record { certificate = read.certificate; texts = its.texts; valid = its.valid }) (wrong real).2 (wrong real).1) c.draw_range.ensures.outside

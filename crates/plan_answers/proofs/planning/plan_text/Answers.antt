@@ -22,4 +22,5 @@ returns-in_ok-plan-in-Steady g c =
     let fits : IsBatch plan.batch = rw (its.batch, ← c.batch.view_is) c.batch.invariant in
     rw (c.in-Steady.is, ← its.batch)
     (IfOk-weaker c.write.result (λ text. text.items ≡ said_text (said plan.settings (Some plan.named))) (λ text. SaysPlan Steady plan.batch text.items)
-    (λ text spelled. says_plan Steady plan.batch plan.settings plan.named text.items fits its.steady spelled) (rw (c.schedule.ensures.schedule, c.certificate.ensures.certificate) at c.write.ensures))
+    (λ text spelled. says_plan Steady plan.batch plan.settings plan.named text.items fits its.steady spelled)
+    (rw (c.schedule.ensures.schedule, c.certificate.ensures.certificate) at c.write.ensures))

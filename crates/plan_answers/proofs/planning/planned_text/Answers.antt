@@ -18,4 +18,5 @@ returns c =
     let plan = c.args.planned.now in
     let is : IsMadePlan plan = (c.schedule.ensures.plan, c.reinserted-few.ensures.few) in
     IfOk-weaker c.write.result (λ text. text.items ≡ said_text (said plan.settings (Some plan.named))) (λ text. SaysPlan Plain plan.batch text.items)
-    (λ text spelled. says_plan Plain plan.batch plan.settings plan.named text.items is.0.fits (plan.reinserted, is) spelled) (rw (c.schedule.ensures.schedule, c.certificate.ensures.certificate) at c.write.ensures)
+    (λ text spelled. says_plan Plain plan.batch plan.settings plan.named text.items is.0.fits (plan.reinserted, is) spelled)
+    (rw (c.schedule.ensures.schedule, c.certificate.ensures.certificate) at c.write.ensures)

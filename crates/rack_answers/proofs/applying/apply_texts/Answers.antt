@@ -24,7 +24,8 @@ returns-clause-result c =
     let batch = c.in_ok-batch.batch in
     let shape = c.in_ok-shape.shape in
     let image = c.args.image.now in
-    IfOk-weaker c.apply_batch.result (λ text. IsApart batch × IsPlacedImage shape image batch text.items) (λ text. IsResult IsImage c.args.shape.now c.args.batch.now (Some image) text.items)
+    IfOk-weaker c.apply_batch.result (λ text. IsApart batch × IsPlacedImage shape image batch text.items)
+    (λ text. IsResult IsImage c.args.shape.now c.args.batch.now (Some image) text.items)
     (λ text is. record {
       extent = shape;
       transfers = batch;
@@ -40,5 +41,6 @@ returns-clause-wrong c =
     let batch = c.in_ok-batch.batch in
     let shape = c.in_ok-shape.shape in
     let image = Some c.args.image.now in
-    IfErr-weaker c.apply_batch.result (λ e. e ≢ NoMemory → IsWrongOf shape image batch e) (λ e. e ≢ NoMemory → IsFirstRunWrong (Plan Plain) c.args.shape.now c.args.batch.now image e)
+    IfErr-weaker c.apply_batch.result (λ e. e ≢ NoMemory → IsWrongOf shape image batch e)
+    (λ e. e ≢ NoMemory → IsFirstRunWrong (Plan Plain) c.args.shape.now c.args.batch.now image e)
     (λ e wrong real. run_wrong shape batch c.in_ok-shape.ensures.shape c.in_ok-batch.ensures.batch (wrong real)) c.apply_batch.ensures.wrong

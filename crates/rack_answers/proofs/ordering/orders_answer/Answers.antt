@@ -13,4 +13,5 @@ returns-in-Some c =
     (λ p is. overlap c.in-Some.i c.in-Some.j c.in-Some.ensures.first is.1) c.refused.ensures
 
 pub returns : goal.returns
-returns c = told c.in_default.ensures.none (c.done.ensures.text ∙ c.in_ok-write.ensures ∙ ap (λ (o : RackTold). orders_text (told_to c.args.only o)) c.in_ok-orders.ensures) c.done.ensures.status
+returns c = told c.in_default.ensures.none (c.done.ensures.text ∙ c.in_ok-write.ensures ∙ ap (λ (o : RackTold). orders_text (told_to c.args.only o))
+    c.in_ok-orders.ensures) c.done.ensures.status

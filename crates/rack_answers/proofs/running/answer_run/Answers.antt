@@ -11,11 +11,13 @@ use Rattle.rack_answers.proofs.running.answer_run.Goals as goal
 pub returns-in_ok-report_text-in-Ok-clause-ran : goal.returns-in_ok-report_text-in-Ok-clause-ran
 returns-in_ok-report_text-in-Ok-clause-ran g c =
     let text = rw c.tells_changes-told.ensures at c.in_ok-report_text-in-Ok.ensures in
-    let is = reported (said_by c.args.source) c.args.shape.now c.args.batch.now (bytes_of c.args.image) c.in-Ok.scheduled c.in-Ok.rack c.in_ok-report_text-in-Ok.field-0.items c.in-Ok.ensures.ran text in
+    let is = reported (said_by c.args.source) c.args.shape.now c.args.batch.now (bytes_of c.args.image) c.in-Ok.scheduled c.in-Ok.rack
+    c.in_ok-report_text-in-Ok.field-0.items c.in-Ok.ensures.ran text in
     ran (rw c.done.ensures.text is) c.done.ensures.status
 
 pub returns-in_ok-report_text-in-Ok-clause-one : goal.returns-in_ok-report_text-in-Ok-clause-one
-returns-in_ok-report_text-in-Ok-clause-one g c = λ some. one_reported c.args.source some c.args.shape.now c.args.batch.now (bytes_of c.args.image) c.done.result (returns-in_ok-report_text-in-Ok-clause-ran g c)
+returns-in_ok-report_text-in-Ok-clause-one g c = λ some. one_reported c.args.source some c.args.shape.now c.args.batch.now (bytes_of c.args.image) c.done.result
+    (returns-in_ok-report_text-in-Ok-clause-ran g c)
 
 pub returns-in-Err-clause-ran : goal.returns-in-Err-clause-ran
 returns-in-Err-clause-ran g c =

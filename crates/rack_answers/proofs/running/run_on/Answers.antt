@@ -20,7 +20,8 @@ run_plain-requires-clause-fits g c κs within =
 
 pub returns-clause-left : goal.returns-clause-left
 returns-clause-left g c =
-    left_by c.run_plain.result c.args.shape (bytes_of c.args.image) c.in_ok-rack.rack c.args.scheduled.now.batch c.in_ok-rack.ensures.rack (rw c.batch.ensures at c.run_plain.ensures.placed) (rw c.batch.ensures at c.run_plain.ensures.apart)
+    left_by c.run_plain.result c.args.shape (bytes_of c.args.image) c.in_ok-rack.rack c.args.scheduled.now.batch c.in_ok-rack.ensures.rack
+    (rw c.batch.ensures at c.run_plain.ensures.placed) (rw c.batch.ensures at c.run_plain.ensures.apart)
 
 pub returns-clause-wrong : goal.returns-clause-wrong
 returns-clause-wrong g c =

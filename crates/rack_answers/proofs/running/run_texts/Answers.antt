@@ -13,7 +13,8 @@ returns-in_err-scheduled-clause-wrong g c =
 pub run_on-requires-clause-fits : goal.run_on-requires-clause-fits
 run_on-requires-clause-fits g c κs within =
     let its = c.in_ok-scheduled.scheduled in
-    fits_in c.in_ok-shape.shape c.args.batch.now its.batch (denoted (said_by c.args.source) c.in_ok-shape.shape c.args.batch.now its.batch its.settings c.in_ok-scheduled.ensures.schedule)
+    fits_in c.in_ok-shape.shape c.args.batch.now its.batch (denoted (said_by c.args.source) c.in_ok-shape.shape c.args.batch.now its.batch its.settings
+    c.in_ok-scheduled.ensures.schedule)
 
 pub returns-in_err-rack-clause-wrong : goal.returns-in_err-rack-clause-wrong
 returns-in_err-rack-clause-wrong g c =

@@ -16,10 +16,12 @@ By source has_two batch board = IsSwitched source has_two board batch
 pub returns-in-Ok : goal.returns-in-Ok
 returns-in-Ok g c =
     let Is = By (said_by c.args.source) c.args.has_two c.args.batch.now in
-    IfOk-weaker c.switch_on.result (Is c.in-Ok.board) (IsOn Is (bytes_of c.args.wiring)) (λ p is. on_board Is c.args.wiring c.in-Ok.board p c.in-Ok.ensures.board is) c.switch_on.ensures
+    IfOk-weaker c.switch_on.result (Is c.in-Ok.board) (IsOn Is (bytes_of c.args.wiring))
+    (λ p is. on_board Is c.args.wiring c.in-Ok.board p c.in-Ok.ensures.board is) c.switch_on.ensures
 
 pub returns-in-Err : goal.returns-in-Err
 returns-in-Err g c =
     let Is = By (said_by c.args.source) c.args.has_two c.args.batch.now in
     let refuses = rw c.into.ensures at c.refused.ensures in
-    IfOk-weaker c.refused.result (Refuses (of_wiring c.in-Err.fault)) (IsOn Is (bytes_of c.args.wiring)) (λ p is. on_fault Is c.args.wiring c.in-Err.fault p c.in-Err.ensures.fault is.1) refuses
+    IfOk-weaker c.refused.result (Refuses (of_wiring c.in-Err.fault)) (IsOn Is (bytes_of c.args.wiring))
+    (λ p is. on_fault Is c.args.wiring c.in-Err.fault p c.in-Err.ensures.fault is.1) refuses

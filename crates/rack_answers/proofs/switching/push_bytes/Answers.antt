@@ -7,4 +7,5 @@ pub loop-byte-preserved : goal.loop-byte-preserved
 loop-byte-preserved c =
     let byte = get_or c.args.bytes.now c.loop-byte.byte-index 0 in
     let text : c.push_spaced.new.text.items ≡ c.loop-byte.text.items ++ (codes " " ++ hex2 byte) = search rules in
-    text ∙ ap (λ (x : List ℕ). x ++ (codes " " ++ hex2 byte)) c.loop-byte.invariant ∙ more_bytes c.args.text.now.items c.args.bytes.now c.loop-byte.byte-index (omega arith)
+    text ∙ ap (λ (x : List ℕ). x ++ (codes " " ++ hex2 byte)) c.loop-byte.invariant ∙ more_bytes c.args.text.now.items c.args.bytes.now c.loop-byte.byte-index
+    (omega arith)

@@ -26,14 +26,19 @@ loop-number-preserved c =
     let settings = c.args.schedule.now in
     let n = c.loop-number.number in
     let invariant = c.loop-number.invariant in
-    let are : c.of_setting-pairs.result ≡ pairs_at batch settings n = c.of_setting-pairs.ensures.members ∙ ap (λ (ts : List ℕ). in_order (setting_pairs batch ts)) c.numbers_of_setting.ensures.numbers in
+    let are : c.of_setting-pairs.result ≡ pairs_at batch settings n = c.of_setting-pairs.ensures.members
+    ∙ ap (λ (ts : List ℕ). in_order (setting_pairs batch ts)) c.numbers_of_setting.ensures.numbers in
     record {
-      text = more_lines c.args.board.now c.args.wide batch settings n c.loop-number.standing c.as_slice.result.now c.loop-number.text.items c.push_setting.new.text.items invariant.standing (c.as_slice.ensures.pairs ∙ are) invariant.text c.in_ok-push_setting.ensures;
+      text = more_lines c.args.board.now c.args.wide batch settings n c.loop-number.standing c.as_slice.result.now c.loop-number.text.items
+          c.push_setting.new.text.items invariant.standing (c.as_slice.ensures.pairs ∙ are) invariant.text c.in_ok-push_setting.ensures;
       standing = ap (λ (ps : List Pair). Some ps) are ∙ ap (standing_before batch settings) (sym (add-one n));
       pairs = are_pairs (goal.at.loop-number-preserved c).After-of_setting-pairs;
     }
 
 pub returns : goal.returns
 returns c =
-    let all : length c.args.schedule.now ≡ c.loop-number.number = omega (arith, c.settings-number-end.ensures) in
-    (c.done.ensures.text ∙ c.loop-number.invariant.text ∙ ap (λ (k : ℕ). flat_map (turning_lines c.args.board.now c.args.wide c.args.batch.now c.args.schedule.now) (range_with_len 0 k)) (sym all), c.done.ensures.status)
+    let all : length c.args.schedule.now ≡ c.loop-number.number = omega (arith, c.settings-number-end.ensures) in (
+      c.done.ensures.text ∙ c.loop-number.invariant.text
+          ∙ ap (λ (k : ℕ). flat_map (turning_lines c.args.board.now c.args.wide c.args.batch.now c.args.schedule.now) (range_with_len 0 k)) (sym all),
+      c.done.ensures.status,
+    )

@@ -21,7 +21,8 @@ switch_answer-requires-clause-modules g c =
     let board = c.args.board.now in
     let denotes = denoted (said_by c.args.source) widest c.args.batch.now its.batch its.settings c.in-Ok.ensures.schedule in
     let has = (rw c.in_default.is at c.in_ok-lack.ensures.none) its.batch denotes in
-    rw (c.has_switch_b-wide.ensures, c.batch-batch.ensures) (all_joined board c.wiring_of.result c.args.has_two its.batch (record { few = denotes.few; within = denotes.within }) c.wiring_of.ensures has)
+    rw (c.has_switch_b-wide.ensures, c.batch-batch.ensures)
+    (all_joined board c.wiring_of.result c.args.has_two its.batch (record { few = denotes.few; within = denotes.within }) c.wiring_of.ensures has)
 
 pub returns-in-Some : goal.returns-in-Some
 returns-in-Some g c =
@@ -36,8 +37,10 @@ returns-in-Ok g c =
     let board = c.args.board.now in
     let tells = rw (c.has_switch_b-wide.ensures, c.batch-batch.ensures, c.schedule-schedule.ensures.schedule) at c.switch_answer.ensures in
     let from = c.in-Ok.ensures.schedule in
-    let has = (rw c.in_default.is at c.in_ok-lack.ensures.none) its.batch (denoted (said_by c.args.source) widest c.args.batch.now its.batch its.settings from) in
-    IfOk-weaker c.switch_answer.result (TellsSwitch c.wiring_of.result (c.args.has_two || is_wide its.batch) its.batch its.settings) (IsSwitched (said_by c.args.source) c.args.has_two board c.args.batch.now)
+    let has = (rw c.in_default.is at c.in_ok-lack.ensures.none) its.batch (denoted (said_by c.args.source) widest c.args.batch.now its.batch its.settings
+    from) in
+    IfOk-weaker c.switch_answer.result (TellsSwitch c.wiring_of.result (c.args.has_two || is_wide its.batch) its.batch its.settings)
+    (IsSwitched (said_by c.args.source) c.args.has_two board c.args.batch.now)
     (λ p told. switched c.wiring_of.result its.batch its.settings from has c.wiring_of.ensures told) tells
 
 pub returns-in-Err : goal.returns-in-Err

@@ -103,8 +103,8 @@ const HISTORY_FULL: Row = (
 /// A batch where the book is full.
 const BOOK_FULL: Row = (Ask::Submit(PUSH), Said::Refused(BookRefusal::BookFull));
 
-/// Whether an exchange is closed, with as many entries in its history as there may be, and its first
-/// word is still 0.
+/// Whether an exchange is closed, with as many entries in its history as there may be, and its
+/// first word is still 0.
 fn is_full(closed: Option<Closed<MemoryPort, PlainWires, OpenGate>>) -> bool {
     let Some(closed) = closed else {
         return false;

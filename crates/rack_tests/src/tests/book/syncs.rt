@@ -6,7 +6,9 @@ ghost use Rattle.progress_word.specs.declared.limits.TheConstants.{ALL_PARTS};
 
 use super::readings::{HeldLines, Hold};
 use crate::tests::office::{Ask, FIRST, PUSH, Said, answer, closed};
-use batch_book::{Book, Call, ExchangeBlank, ExchangeName, History, Reading, Seat, Shared, NullHistory};
+use batch_book::{
+    Book, Call, ExchangeBlank, ExchangeName, History, NullHistory, Reading, Seat, Shared,
+};
 use book_record::{StreamHistory, attach_stream};
 use crossbar::MemoryPort;
 use peek_poke::WireMaker;

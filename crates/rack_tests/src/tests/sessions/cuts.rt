@@ -60,7 +60,8 @@ fn run_text(
 ) -> Result<String, AllocError> {
     let Some(cause) = cause else {
         let ran =
-            "ran 1 run 1 settings 1 words 4 bits 468\nbatch 1 transfers 2 ran\nrefused already\nprogress run 1 done 1\n";
+            "ran 1 run 1 settings 1 words 4 bits 468\nbatch 1 transfers 2 ran\nrefused already\n\
+            progress run 1 done 1\n";
         return String::from_str(alloc, ran);
     };
     let cause = cause_text(alloc, cause)?;

@@ -5,7 +5,7 @@ ghost use Rattle.batch_book.specs.Naming.{IsNamed};
 ghost use Rattle.std.specs.Prelude.{◌≡◌, [], Some};
 
 use super::served::back;
-use batch_book::{Book, ExchangeBlank, ExchangeName, History, Seat, Shared, NullHistory};
+use batch_book::{Book, ExchangeBlank, ExchangeName, History, NullHistory, Seat, Shared};
 use book_record::{StreamHistory, attach_stream};
 use client_session::{Listener, ServeFault, serve};
 use crossbar::MemoryPort;
@@ -259,7 +259,9 @@ fn is_so<R: AllocGlobal + Clock + Threads + Wait + Sync>(rt: &R, row: &Row<'_>) 
     };
     let writer = Recorded { course: &course };
     let book = attach_stream::<Recorded<'_>, Brand>(rt.alloc(), book, 0, writer, false);
-    let is_heard = hears::<Brand, StreamHistory<Recorded<'_>, Brand>, R>(rt, blank, book, row, &course);
+    let is_heard = hears::<Brand, StreamHistory<Recorded<'_>, Brand>, R>(
+        rt, blank, book, row, &course,
+    );
     let is_over = course.is_over();
     is_heard && is_over
 }
@@ -343,7 +345,8 @@ const APART: [Row<'static>; 3] = [
             Told(2),
             Asked,
         ],
-        hears: "word 00000000\naccepted 1\nplanned 1 settings 1\nran 1 run 1 settings 1 words 1 bits 117\nword 00000000\n",
+        hears: "word 00000000\naccepted 1\nplanned 1 settings 1\n\
+            ran 1 run 1 settings 1 words 1 bits 117\nword 00000000\n",
         fault: None,
     },
     Row {

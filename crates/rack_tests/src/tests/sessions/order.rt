@@ -37,8 +37,10 @@ fn is_flushed_first<R: AllocGlobal + Clock + Threads + Wait + Sync>(
 /// The first client of row one-script.
 pub fn one_script() -> Script {
     Script::of(
-        "poke 1 80000808 000000ff\nbatch 1\npull 0 0 1 1\nplan 1\nrun 1\nprogress\npeek 0 80000800\nbye\n",
-        "poked\naccepted 1\nplanned 1 settings 1\nran 1 run 1 settings 1 words 2 bits 234\nprogress run 1 done 1\nword 000000ff\nbye\n",
+        "poke 1 80000808 000000ff\nbatch 1\npull 0 0 1 1\nplan 1\nrun 1\nprogress\n\
+        peek 0 80000800\nbye\n",
+        "poked\naccepted 1\nplanned 1 settings 1\nran 1 run 1 settings 1 words 2 bits 234\n\
+        progress run 1 done 1\nword 000000ff\nbye\n",
         6,
     )
 }
@@ -67,7 +69,8 @@ fn a_reply_is_flushed_before_the_end_is_asked_for(rt: HostRuntime) {
 fn a_reply_is_flushed_before_the_next_is_begun(rt: HostRuntime) {
     let script = Script::of(
         "hello\nshow 1\nprogress\nbatch 0\nplan 1\nrun 1\nshow 1\n",
-        "refused line\nrefused unknown\nprogress run 0 done 0\naccepted 1\nplanned 1 settings 0\nran 1 run 1 settings 0 words 0 bits 0\nbatch 1 transfers 0 ran\n",
+        "refused line\nrefused unknown\nprogress run 0 done 0\naccepted 1\nplanned 1 settings 0\n\
+        ran 1 run 1 settings 0 words 0 bits 0\nbatch 1 transfers 0 ran\n",
         6,
     );
     let mut slow = ALL;
@@ -126,8 +129,8 @@ fn goes_on_after<R: AllocGlobal + Clock + Threads + Wait + Sync>(rt: &R, script:
 
 /// An empty batch, and then one of whose two lines the first is whole, and 81 letters stand in the
 /// second.
-const TOO_LONG: &str =
-    "batch 0\nbatch 2\npush 0 0 0 0\naaaaaaaaaaaaaaaaaaaaaaaaaaaaaaaaaaaaaaaaaaaaaaaaaaaaaaaaaaaaaaaaaaaaaaaaaaaaaaaaa";
+const TOO_LONG: &str = "batch 0\nbatch 2\npush 0 0 0 0\n\
+    aaaaaaaaaaaaaaaaaaaaaaaaaaaaaaaaaaaaaaaaaaaaaaaaaaaaaaaaaaaaaaaaaaaaaaaaaaaaaaaaa";
 
 #[test]
 fn a_seat_is_served_again_after_lines_that_end_sessions(rt: HostRuntime) {

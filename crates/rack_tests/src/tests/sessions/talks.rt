@@ -150,8 +150,10 @@ const READINGS: [(usize, &str); 13] = [
 #[test]
 fn each_reading_is_of_now(rt: HostRuntime) {
     let runs =
-        "accepted 1\nplanned 1 settings 0\nran 1 run 1 settings 0 words 0 bits 0\naccepted 2\nplanned 2 settings 1\nran 2 run 2 settings 1 words 1 bits 117\naccepted 3\nplanned 3 settings 2\nran 3 run 3 settings 2 words 2 bits 234\n";
-    let readings =
-        "progress run 0 done 0\nprogress run 1 done 0\nprogress run 2 done 1\nprogress run 3 done 2\n";
+        "accepted 1\nplanned 1 settings 0\nran 1 run 1 settings 0 words 0 bits 0\naccepted 2\n\
+        planned 2 settings 1\nran 2 run 2 settings 1 words 1 bits 117\naccepted 3\n\
+        planned 3 settings 2\nran 3 run 3 settings 2 words 2 bits 234\n";
+    let readings = "progress run 0 done 0\nprogress run 1 done 0\nprogress run 2 done 1\n\
+        progress run 3 done 2\n";
     assert!(rt; hear(&rt, "3x1x1", &READINGS, [runs, readings]));
 }

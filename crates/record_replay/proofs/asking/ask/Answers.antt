@@ -13,13 +13,16 @@ pub unreachable-requires : goal.unreachable-requires
 unreachable-requires g c =
     let old = c.args.book.now in
     let shape : IsShape old.machine.store.shape = subst (λ s. IsShape s.shape) c.rack.ensures c.shape-shape.ensures.whole.within in
-    let answers = replied old c.args.session c.args.call c.apply-reply.result c.apply-reply.new.self (sound old.opening old.history old.machine shape c.log.ensures.replay) c.apply-reply.ensures.grown in
+    let answers = replied old c.args.session c.args.call c.apply-reply.result c.apply-reply.new.self
+    (sound old.opening old.history old.machine shape c.log.ensures.replay) c.apply-reply.ensures.grown in
     let is : c.apply-reply.result ≡ Refused Stranger = search rules in
     no_stranger old.machine c.args.session c.args.call c.apply-reply.new.self.machine c.requires.own (rw is at answers)
-    (subst (λ (r : Reply). IsMachineStep old.machine c.args.session c.args.call r c.apply-reply.new.self.machine) is (c.apply-reply.ensures.grown (ap is_logged is)).step)
+    (subst (λ (r : Reply). IsMachineStep old.machine c.args.session c.args.call r c.apply-reply.new.self.machine) is
+    (c.apply-reply.ensures.grown (ap is_logged is)).step)
 
 pub returns-in_default-clause-answers : goal.returns-in_default-clause-answers
 returns-in_default-clause-answers g c =
     let old = c.args.book.now in
     let shape : IsShape old.machine.store.shape = subst (λ s. IsShape s.shape) c.rack.ensures c.shape-shape.ensures.whole.within in
-    replied old c.args.session c.args.call c.apply-reply.result c.apply-reply.new.self (sound old.opening old.history old.machine shape c.log.ensures.replay) c.apply-reply.ensures.grown
+    replied old c.args.session c.args.call c.apply-reply.result c.apply-reply.new.self (sound old.opening old.history old.machine shape c.log.ensures.replay)
+    c.apply-reply.ensures.grown

@@ -14,4 +14,5 @@ returns-then-eq-clause-ok g c =
     let reply = c.in_ok-reply.reply in
     let line : c.in_ok-due.due.items ≡ reply_text (id_of told) reply = c.in_ok-due.ensures ∙ ap (λ (n : ℕ). reply_text n reply) c.id_of-id.ensures in
     let same : c.in-Some.replied.now ≡ c.in_ok-due.due.items = search rules in
-    came_as c.args.limit c.args.book.now c.ask.new.book c.args.body.now c.in-Some.replied.now c.in-Some.session told c.in_ok-call.call reply c.in_ok-call.ensures.told read.0 read.1 read.2 c.in_ok-reply.ensures.can c.in_ok-reply.ensures.grown read.3 (same ∙ line)
+    came_as c.args.limit c.args.book.now c.ask.new.book c.args.body.now c.in-Some.replied.now c.in-Some.session told c.in_ok-call.call reply
+    c.in_ok-call.ensures.told read.0 read.1 read.2 c.in_ok-reply.ensures.can c.in_ok-reply.ensures.grown read.3 (same ∙ line)

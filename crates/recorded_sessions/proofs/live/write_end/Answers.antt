@@ -7,7 +7,8 @@ use Rattle.recorded_sessions.proofs.live.write_end.Goals as goal
 
 pub returns-then-is_whole-clause-end : goal.returns-then-is_whole-clause-end
 returns-then-is_whole-clause-end g c = λ n name text counted so.
-    written_behind c.write_bytes.result name _ _ text (last_lines n) (rw c.if-is_whole.true at so) (rw (c.as_bytes.ensures.bytes, c.last_lines.ensures n counted) at c.write_bytes.ensures.went)
+    written_behind c.write_bytes.result name _ _ text (last_lines n) (rw c.if-is_whole.true at so)
+    (rw (c.as_bytes.ensures.bytes, c.last_lines.ensures n counted) at c.write_bytes.ensures.went)
     (rw (c.as_bytes.ensures.bytes, c.last_lines.ensures n counted) at c.write_bytes.ensures.cut)
 
 pub returns-in-Some-clause-end : goal.returns-in-Some-clause-end

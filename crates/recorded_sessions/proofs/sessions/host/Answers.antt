@@ -15,7 +15,8 @@ returns-in-Err g c =
     let clients = clients_by (g.S.ClientFiles.says c.args.system.now) (g.S.ClientFiles.had c.args.system.now) c.args.clients.now in
     let before = c.args.endings.now.items in
     let none = none_ended before before c.requires.unserved (λ i. before) in
-    unserved_lived (g.S.System.holds c.args.system.now) g.S.System.received c.args.shared.now c.args.clients.now (contents_in c.args.contents.now).image (hosting c.args.shared.now clients (ends_of before)) (ends_of before ≡ []) c.in-Err.kept c.in-Err.ensures.unserved (λ p. none) none
+    unserved_lived (g.S.System.holds c.args.system.now) g.S.System.received c.args.shared.now c.args.clients.now (contents_in c.args.contents.now).image
+    (hosting c.args.shared.now clients (ends_of before)) (ends_of before ≡ []) c.in-Err.kept c.in-Err.ensures.unserved (λ p. none) none
 
 pub returns : goal.returns
 returns g c =
@@ -28,6 +29,9 @@ returns g c =
     let o = c.host_from-over.ensures.over in
     let over = over_named g.S.Stream.Write.contents (recorded_in shared) names begun o.0 c.host_from-over.result o.1 s.2.front in
     let ended = subst (λ (b : Bool). IsHostOver b begun.book clients c.args.endings.now.items after c.host_from-over.result.end o.0) s.2.stream o.2 in
-    lived (g.S.System.holds c.args.system.now) g.S.System.received shared names (contents_in c.args.contents.now).image (hosting shared clients (ends_of after)) (ends_of after ≡ []) c.host_from-over.result.end begun.book o.0 s.0 c.finish_live.result s.1 s.2.begins c.finish_live.ensures.told (c.finish_live.ensures.kept s.0 names begun.book o.0 s.2.begins over (host_unasked (loses shared) begun.book clients c.args.endings.now.items after c.host_from-over.result.end o.0 ended))
+    lived (g.S.System.holds c.args.system.now) g.S.System.received shared names (contents_in c.args.contents.now).image (hosting shared clients (ends_of after))
+    (ends_of after ≡ []) c.host_from-over.result.end begun.book o.0 s.0 c.finish_live.result s.1 s.2.begins c.finish_live.ensures.told
+    (c.finish_live.ensures.kept s.0 names begun.book o.0 s.2.begins over (host_unasked (loses shared) begun.book clients c.args.endings.now.items after
+    c.host_from-over.result.end o.0 ended))
     (host_ending shared clients c.args.endings.now.items after begun.book o.0 c.host_from-over.result.end c.requires.unserved ended)
     (subst (IsCutFromRecord (g.S.System.holds c.args.system.now) shared.record_out names begun.book) (sym c.finish_live.ensures.cut) s.2.cut)

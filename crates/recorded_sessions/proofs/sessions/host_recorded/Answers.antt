@@ -28,11 +28,26 @@ pub returns-clause-over : goal.returns-clause-over
 returns-clause-over g c =
     let book = c.args.book in
     let same = c.attach_stream-book.ensures ∙ same_account book c.requires.ready in
-    let clients = clients_by (g.S.ClientFiles.says c.args.streams.now.system.now) (g.S.ClientFiles.had c.args.streams.now.system.now) c.args.streams.now.clients.now in
+    let clients = clients_by (g.S.ClientFiles.says c.args.streams.now.system.now) (g.S.ClientFiles.had c.args.streams.now.system.now)
+    c.args.streams.now.clients.now in
     let left = c.host_over-end.result.1 in
-    let over = subst (λ (a : BookView). IsHostOver true a clients c.args.endings.now.items c.host_over-end.new.endings.items c.host_over-end.result.0 left) same c.host_over-end.ensures in
+    let over = subst (λ (a : BookView). IsHostOver true a clients c.args.endings.now.items c.host_over-end.new.endings.items c.host_over-end.result.0 left) same
+    c.host_over-end.ensures in
     let whole = c.finish_recorded.result.is_whole in
-    let text = subst (λ (es : List Entry). IfSome c.finish_recorded.result.stream (λ file. IsStreamed g.N.StreamName.held (g.S.Stream.Write.contents file) es left.durable left.history left.whole)) (sym c.requires.earlier) c.finish_recorded.ensures.text in
+    let text = subst
+    (λ (es : List Entry). IfSome c.finish_recorded.result.stream (λ file. IsStreamed g.N.StreamName.held (g.S.Stream.Write.contents file) es left.durable
+    left.history left.whole)) (sym c.requires.earlier) c.finish_recorded.ensures.text in
     let entries = entries_told c.finish_recorded.result.stream c.finish_recorded.result.entries left c.finish_recorded.ensures.entries in
-    let settled = host_settled true book clients _ _ c.host_over-end.result.0 left over in
-    (left, record { opening = settled.0; machine = c.finish_recorded.ensures.machine; whole = c.finish_recorded.ensures.whole; all = settled.1; text = text; entries = entries }, rw c.finish_recorded.ensures.end over)
+    let settled = host_settled true book clients _ _ c.host_over-end.result.0 left over in (
+      left,
+      record {
+        opening = settled.0;
+        machine = c.finish_recorded.ensures.machine;
+        whole = c.finish_recorded.ensures.whole;
+        all = settled.1;
+        text =
+            text;
+        entries = entries;
+      },
+      rw c.finish_recorded.ensures.end over,
+    )

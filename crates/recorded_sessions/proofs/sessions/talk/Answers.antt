@@ -13,8 +13,12 @@ use Rattle.recorded_sessions.proofs.sessions.talk.Goals as goal
 
 pub returns-in-Err-clause-session : goal.returns-in-Err-clause-session
 returns-in-Err-clause-session g c =
-    let old = g.I.Read.remaining c.args.input.now in
-    ([], Appends-nil _, unserved_lived (g.S.System.holds c.args.system.now) g.S.System.received c.args.shared.now [] (contents_in c.args.contents.now).image (talking c.args.shared.now old old []) ([] ≡ []) c.in-Err.kept c.in-Err.ensures.unserved (λ p. (refl, refl)) refl)
+    let old = g.I.Read.remaining c.args.input.now in (
+      [],
+      Appends-nil _,
+      unserved_lived (g.S.System.holds c.args.system.now) g.S.System.received c.args.shared.now [] (contents_in c.args.contents.now).image
+          (talking c.args.shared.now old old []) ([] ≡ []) c.in-Err.kept c.in-Err.ensures.unserved (λ p. (refl, refl)) refl,
+    )
 
 pub returns-in-Err-clause-beside : goal.returns-in-Err-clause-beside
 returns-in-Err-clause-beside g c = tells_nothing _
@@ -31,7 +35,10 @@ returns-clause-session g c =
     let ended = subst (λ (b : Bool). IsTalkOver b begun.book old rest o.0 c.talk_from-over.result.end o.1) s.2.stream o.4 in (
       o.0,
       o.2,
-      lived (g.S.System.holds c.args.system.now) g.S.System.received shared [] (contents_in c.args.contents.now).image (talking shared old rest o.0) (o.0 ≡ []) c.talk_from-over.result.end begun.book o.1 s.0 c.finish_live.result s.1 s.2.begins c.finish_live.ensures.told (c.finish_live.ensures.kept s.0 [] begun.book o.1 s.2.begins over (talk_unasked (loses shared) begun.book old rest o.0 c.talk_from-over.result.end o.1 ended))
+      lived (g.S.System.holds c.args.system.now) g.S.System.received shared [] (contents_in c.args.contents.now).image (talking shared old rest o.0) (o.0 ≡ [])
+          c.talk_from-over.result.end begun.book o.1 s.0 c.finish_live.result s.1 s.2.begins c.finish_live.ensures.told
+          (c.finish_live.ensures.kept s.0 [] begun.book o.1 s.2.begins over (talk_unasked (loses shared) begun.book old rest o.0 c.talk_from-over.result.end o.1
+          ended))
           (talk_ending shared old rest o.0 begun.book o.1 c.talk_from-over.result.end ended)
           (subst (IsCutFromRecord (g.S.System.holds c.args.system.now) shared.record_out [] begun.book) (sym c.finish_live.ensures.cut) s.2.cut),
     )

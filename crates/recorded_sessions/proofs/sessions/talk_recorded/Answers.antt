@@ -20,7 +20,22 @@ returns-clause-session g c =
     let old = g.I.Read.remaining c.args.input.now in
     let rest = g.I.Read.remaining c.talk_over-end.new.input in
     let over = subst (λ (a : BookView). IsTalkOver true a old rest t.0 c.talk_over-end.result.0 left) same t.2 in
-    let text = subst (λ (es : List Entry). IfSome c.finish_recorded.result.stream (λ file. IsStreamed g.N.StreamName.held (g.F.Write.contents file) es left.durable left.history left.whole)) (sym c.requires.earlier) c.finish_recorded.ensures.text in
+    let text = subst
+    (λ (es : List Entry). IfSome c.finish_recorded.result.stream (λ file. IsStreamed g.N.StreamName.held (g.F.Write.contents file) es left.durable
+    left.history left.whole)) (sym c.requires.earlier) c.finish_recorded.ensures.text in
     let entries = entries_told c.finish_recorded.result.stream c.finish_recorded.result.entries left c.finish_recorded.ensures.entries in
-    let settled = talk_settled true book c.requires.ready old rest t.0 c.talk_over-end.result.0 left over in
-    (t.0, left, t.1, record { opening = settled.0; machine = c.finish_recorded.ensures.machine; whole = c.finish_recorded.ensures.whole; all = settled.1; text = text; entries = entries }, rw c.finish_recorded.ensures.end over)
+    let settled = talk_settled true book c.requires.ready old rest t.0 c.talk_over-end.result.0 left over in (
+      t.0,
+      left,
+      t.1,
+      record {
+        opening = settled.0;
+        machine = c.finish_recorded.ensures.machine;
+        whole = c.finish_recorded.ensures.whole;
+        all = settled.1;
+        text =
+            text;
+        entries = entries;
+      },
+      rw c.finish_recorded.ensures.end over,
+    )

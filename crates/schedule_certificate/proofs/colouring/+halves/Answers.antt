@@ -7,7 +7,8 @@ use Rattle.schedule_certificate.proofs.Parts.{cut, both_steps, single_matching, 
 use Rattle.schedule_certificate.proofs.colouring.+halves.Goals as goal
 
 pub colour_part-one_with_room-requires-clause-matching : goal.colour_part-one_with_room-requires-clause-matching
-colour_part-one_with_room-requires-clause-matching g t c = single_matching c.args.graph.now c.args.part.now c.degree_of-degree.result c.degree_of-degree.ensures.degree (omega arith)
+colour_part-one_with_room-requires-clause-matching g t c = single_matching c.args.graph.now c.args.part.now c.degree_of-degree.result
+    c.degree_of-degree.ensures.degree (omega arith)
 
 pub colour_part-colour_both-requires : goal.colour_part-colour_both-requires
 colour_part-colour_both-requires g t c κs within =
@@ -17,7 +18,8 @@ colour_part-colour_both-requires g t c κs within =
     let back : List ℕ = c.split_at_mut-left.result.1.now in
     let d : ℕ = c.degree_of-degree.result in
     let high : 1 < d = omega arith in
-    let halves : AreHalves batch whole front back = rw (c.split_at_mut-left.ensures.front, c.split_at_mut-left.ensures.back) c.halve_part-middle.ensures.halves in
+    let halves : AreHalves batch whole front back = rw (c.split_at_mut-left.ensures.front, c.split_at_mut-left.ensures.back)
+    c.halve_part-middle.ensures.halves in
     let less = both_less batch whole front back c.requires.part.0 halves d c.degree_of-degree.ensures.degree high in
     let front_less : length front < length whole = less.0 in
     let back_less : length back < length whole = less.1 in
@@ -31,24 +33,83 @@ colour_part-colour_both-requires g t c κs within =
 
 pub colour_part-join_halves-requires : goal.colour_part-join_halves-requires
 colour_part-join_halves-requires g t c =
-    let halves = cut _ _ _ _ _ _ c.split_at_mut-left.ensures.front c.split_at_mut-left.ensures.back c.halve_part-middle.ensures.halves in
-    (c.args.graph.now, c.args.part.now, record { front = _; back = _; is_part = c.requires.part.0; is_degree = c.degree_of-degree.ensures.degree; high = omega arith; halves = halves; front_coloured = c.in_ok-left.ensures.left; back_coloured = c.in_ok-left.ensures.right })
+    let halves = cut _ _ _ _ _ _ c.split_at_mut-left.ensures.front c.split_at_mut-left.ensures.back c.halve_part-middle.ensures.halves in (
+      c.args.graph.now,
+      c.args.part.now,
+      record {
+        front = _;
+        back = _;
+        is_part = c.requires.part.0;
+        is_degree = c.degree_of-degree.ensures.degree;
+        high =
+            omega arith;
+        halves = halves;
+        front_coloured = c.in_ok-left.ensures.left;
+        back_coloured = c.in_ok-left.ensures.right;
+      },
+    )
 
 pub colour_part-returns-clause-coloured : goal.colour_part-returns-clause-coloured
 colour_part-returns-clause-coloured g t c =
     let halves = cut _ _ _ _ _ _ c.split_at_mut-left.ensures.front c.split_at_mut-left.ensures.back c.halve_part-middle.ensures.halves in
-    c.join_halves.ensures.coloured c.args.graph.now c.args.part.now (record { front = _; back = _; is_part = c.requires.part.0; is_degree = c.degree_of-degree.ensures.degree; high = omega arith; halves = halves; front_coloured = c.in_ok-left.ensures.left; back_coloured = c.in_ok-left.ensures.right })
+    c.join_halves.ensures.coloured c.args.graph.now c.args.part.now
+    (record {
+      front = _;
+      back = _;
+      is_part = c.requires.part.0;
+      is_degree = c.degree_of-degree.ensures.degree;
+      high = omega arith;
+      halves =
+          halves;
+      front_coloured = c.in_ok-left.ensures.left;
+      back_coloured = c.in_ok-left.ensures.right;
+    })
 
 pub colour_part-returns-then-degree-le1-clause-cost : goal.colour_part-returns-then-degree-le1-clause-cost
-colour_part-returns-then-degree-le1-clause-cost g t c k few = omega (arith, c.degree_of-degree.ensures.cost, c.one_with_room.ensures.cost, leaf (length c.args.part.now) k, one_at k)
+colour_part-returns-then-degree-le1-clause-cost g t c k few = omega (
+  arith,
+  c.degree_of-degree.ensures.cost,
+  c.one_with_room.ensures.cost,
+  leaf (length c.args.part.now) k,
+  one_at k,
+)
 
 pub colour_part-returns-in_err-left-clause-cost : goal.colour_part-returns-in_err-left-clause-cost
 colour_part-returns-in_err-left-clause-cost g t c k few =
     let halves = cut _ _ _ _ _ _ c.split_at_mut-left.ensures.front c.split_at_mut-left.ensures.back c.halve_part-middle.ensures.halves in
-    both_steps _ _ _ _ c.requires.part.0 halves c.degree_of-degree.result k c.half_of-half.result (7 * length c.args.part.now + MAX_MODULES) c.args.steps.now c.colour_both.new.steps (omega arith) c.half_of-half.ensures (omega (arith, few, c.degree_of-degree.ensures.most)) (omega arith) (λ j fits. omega (arith, both_lengths _ _ _ _ c.requires.part.0 halves, c.colour_both.ensures.cost j fits, c.degree_of-degree.ensures.cost, c.halve_part-middle.ensures.cost))
+    both_steps _ _ _ _ c.requires.part.0 halves c.degree_of-degree.result k c.half_of-half.result (7 * length c.args.part.now + MAX_MODULES) c.args.steps.now
+    c.colour_both.new.steps (omega arith) c.half_of-half.ensures (omega (arith, few, c.degree_of-degree.ensures.most)) (omega arith)
+    (λ j fits. omega (
+      arith,
+      both_lengths _ _ _ _ c.requires.part.0 halves,
+      c.colour_both.ensures.cost j fits,
+      c.degree_of-degree.ensures.cost,
+      c.halve_part-middle.ensures.cost,
+    ))
 
 pub colour_part-returns-clause-cost : goal.colour_part-returns-clause-cost
 colour_part-returns-clause-cost g t c k few =
     let halves = cut _ _ _ _ _ _ c.split_at_mut-left.ensures.front c.split_at_mut-left.ensures.back c.halve_part-middle.ensures.halves in
-    let joined = c.join_halves.ensures.cost c.args.graph.now c.args.part.now (record { front = _; back = _; is_part = c.requires.part.0; is_degree = c.degree_of-degree.ensures.degree; high = omega arith; halves = halves; front_coloured = c.in_ok-left.ensures.left; back_coloured = c.in_ok-left.ensures.right }) in
-    both_steps _ _ _ _ c.requires.part.0 halves c.degree_of-degree.result k c.half_of-half.result (32 * length c.args.part.now + 7 * MAX_MODULES * (c.degree_of-degree.result + 1) + 2 * MAX_MODULES) c.args.steps.now c.join_halves.new.steps (omega arith) c.half_of-half.ensures (omega (arith, few, c.degree_of-degree.ensures.most)) (omega arith) (λ j fits. omega (arith, both_lengths _ _ _ _ c.requires.part.0 halves, joined, c.colour_both.ensures.cost j fits, c.degree_of-degree.ensures.cost, c.halve_part-middle.ensures.cost))
+    let joined = c.join_halves.ensures.cost c.args.graph.now c.args.part.now
+    (record {
+      front = _;
+      back = _;
+      is_part = c.requires.part.0;
+      is_degree = c.degree_of-degree.ensures.degree;
+      high = omega arith;
+      halves =
+          halves;
+      front_coloured = c.in_ok-left.ensures.left;
+      back_coloured = c.in_ok-left.ensures.right;
+    }) in
+    both_steps _ _ _ _ c.requires.part.0 halves c.degree_of-degree.result k c.half_of-half.result
+    (32 * length c.args.part.now + 7 * MAX_MODULES * (c.degree_of-degree.result + 1) + 2 * MAX_MODULES) c.args.steps.now c.join_halves.new.steps
+    (omega arith) c.half_of-half.ensures (omega (arith, few, c.degree_of-degree.ensures.most)) (omega arith)
+    (λ j fits. omega (
+      arith,
+      both_lengths _ _ _ _ c.requires.part.0 halves,
+      joined,
+      c.colour_both.ensures.cost j fits,
+      c.degree_of-degree.ensures.cost,
+      c.halve_part-middle.ensures.cost,
+    ))

@@ -8,7 +8,8 @@ use Rattle.schedule_certificate.proofs.Parts.{cut, both_steps, single_matching, 
 use Rattle.schedule_certificate.proofs.halving.+colour_halves.Goals as goal
 
 pub one_with_room-requires-clause-matching : goal.one_with_room-requires-clause-matching
-one_with_room-requires-clause-matching t c = single_matching c.args.graph.now c.args.part.now c.degree_of-degree.result c.degree_of-degree.ensures.degree (omega arith)
+one_with_room-requires-clause-matching t c = single_matching c.args.graph.now c.args.part.now c.degree_of-degree.result c.degree_of-degree.ensures.degree
+    (omega arith)
 
 pub colour_halves-requires : goal.colour_halves-requires
 colour_halves-requires t c =
@@ -18,7 +19,8 @@ colour_halves-requires t c =
     let back : List ℕ = c.split_at_mut-left.result.1.now in
     let d : ℕ = c.degree_of-degree.result in
     let high : 1 < d = omega arith in
-    let halves : AreHalves batch whole front back = rw (c.split_at_mut-left.ensures.front, c.split_at_mut-left.ensures.back) c.halve_known-middle.ensures.halves in
+    let halves : AreHalves batch whole front back = rw (c.split_at_mut-left.ensures.front, c.split_at_mut-left.ensures.back)
+    c.halve_known-middle.ensures.halves in
     let less = both_less batch whole front back c.requires.part.0 halves d c.degree_of-degree.ensures.degree high in
     let front_less : length front < length whole = less.0 in
     let left : IsPart batch front = left_part batch whole front back c.requires.part.0 halves in
@@ -38,7 +40,8 @@ colour_halves-requires-2 t c =
     let back : List ℕ = c.split_at_mut-left.result.1.now in
     let d : ℕ = c.degree_of-degree.result in
     let high : 1 < d = omega arith in
-    let halves : AreHalves batch whole front back = rw (c.split_at_mut-left.ensures.front, c.split_at_mut-left.ensures.back) c.halve_known-middle.ensures.halves in
+    let halves : AreHalves batch whole front back = rw (c.split_at_mut-left.ensures.front, c.split_at_mut-left.ensures.back)
+    c.halve_known-middle.ensures.halves in
     let less = both_less batch whole front back c.requires.part.0 halves d c.degree_of-degree.ensures.degree high in
     let back_less : length back < length whole = less.1 in
     let right : IsPart batch back = right_part batch whole front back c.requires.part.0 halves in
@@ -53,38 +56,123 @@ colour_halves-requires-2 t c =
 
 pub join_halves-requires : goal.join_halves-requires
 join_halves-requires t c =
-    let halves = cut _ _ _ _ _ _ c.split_at_mut-left.ensures.front c.split_at_mut-left.ensures.back c.halve_known-middle.ensures.halves in
-    (c.args.graph.now, c.args.part.now, record { front = _; back = _; is_part = c.requires.part.0; is_degree = c.degree_of-degree.ensures.degree; high = omega arith; halves = halves; front_coloured = c.in_ok-left.ensures.coloured; back_coloured = c.in_ok-right.ensures.coloured })
+    let halves = cut _ _ _ _ _ _ c.split_at_mut-left.ensures.front c.split_at_mut-left.ensures.back c.halve_known-middle.ensures.halves in (
+      c.args.graph.now,
+      c.args.part.now,
+      record {
+        front = _;
+        back = _;
+        is_part = c.requires.part.0;
+        is_degree = c.degree_of-degree.ensures.degree;
+        high =
+            omega arith;
+        halves = halves;
+        front_coloured = c.in_ok-left.ensures.coloured;
+        back_coloured = c.in_ok-right.ensures.coloured;
+      },
+    )
 
 pub returns-clause-coloured : goal.returns-clause-coloured
 returns-clause-coloured t c =
     let halves = cut _ _ _ _ _ _ c.split_at_mut-left.ensures.front c.split_at_mut-left.ensures.back c.halve_known-middle.ensures.halves in
-    c.join_halves.ensures.coloured c.args.graph.now c.args.part.now (record { front = _; back = _; is_part = c.requires.part.0; is_degree = c.degree_of-degree.ensures.degree; high = omega arith; halves = halves; front_coloured = c.in_ok-left.ensures.coloured; back_coloured = c.in_ok-right.ensures.coloured })
+    c.join_halves.ensures.coloured c.args.graph.now c.args.part.now
+    (record {
+      front = _;
+      back = _;
+      is_part = c.requires.part.0;
+      is_degree = c.degree_of-degree.ensures.degree;
+      high = omega arith;
+      halves =
+          halves;
+      front_coloured = c.in_ok-left.ensures.coloured;
+      back_coloured = c.in_ok-right.ensures.coloured;
+    })
 
 pub returns-then-degree-le1-clause-cost : goal.returns-then-degree-le1-clause-cost
-returns-then-degree-le1-clause-cost t c k few = omega (arith, c.degree_of-degree.ensures.cost, c.one_with_room.ensures.cost, leaf (length c.args.part.now) k, one_at k)
+returns-then-degree-le1-clause-cost t c k few = omega (
+  arith,
+  c.degree_of-degree.ensures.cost,
+  c.one_with_room.ensures.cost,
+  leaf (length c.args.part.now) k,
+  one_at k,
+)
 
 pub returns-then-degree-part-clause-cost : goal.returns-then-degree-part-clause-cost
-returns-then-degree-part-clause-cost t c k few = omega (arith, few, c.degree_of-degree.ensures.most, c.degree_of-degree.ensures.cost, c.each_with_room.ensures.cost, leaf (length c.args.part.now) k)
+returns-then-degree-part-clause-cost t c k few = omega (
+  arith,
+  few,
+  c.degree_of-degree.ensures.most,
+  c.degree_of-degree.ensures.cost,
+  c.each_with_room.ensures.cost,
+  leaf (length c.args.part.now) k,
+)
 
 pub returns-then-degree-eq2-clause-cost : goal.returns-then-degree-eq2-clause-cost
 returns-then-degree-eq2-clause-cost t c zero few = absurd (omega (arith, few, c.degree_of-degree.ensures.most))
 returns-then-degree-eq2-clause-cost t c (suc k) few =
     let halves = cut _ _ _ _ _ _ c.split_at_mut-left.ensures.front c.split_at_mut-left.ensures.back c.halve_known-middle.ensures.halves in
-    omega (arith, both_lengths _ _ _ _ c.requires.part.0 halves, c.degree_of-degree.ensures.cost, c.halve_known-middle.ensures.cost, c.colour_two.ensures.cost, leaf (length c.args.part.now) (suc k), one_at (suc k), mul-suc (length c.args.part.now) k)
+    omega (
+      arith,
+      both_lengths _ _ _ _ c.requires.part.0 halves,
+      c.degree_of-degree.ensures.cost,
+      c.halve_known-middle.ensures.cost,
+      c.colour_two.ensures.cost,
+      leaf (length c.args.part.now) (suc k),
+      one_at (suc k),
+      mul-suc (length c.args.part.now) k,
+    )
 
 pub returns-in_err-left-clause-cost : goal.returns-in_err-left-clause-cost
 returns-in_err-left-clause-cost t c k few =
     let halves = cut _ _ _ _ _ _ c.split_at_mut-left.ensures.front c.split_at_mut-left.ensures.back c.halve_known-middle.ensures.halves in
-    both_steps _ _ _ _ c.requires.part.0 halves c.degree_of-degree.result k c.half_of-half.result (5 * length c.args.part.now + MAX_MODULES) _ _ (omega arith) c.half_of-half.ensures (omega (arith, few, c.degree_of-degree.ensures.most)) (omega arith) (λ j fits. omega (arith, both_lengths _ _ _ _ c.requires.part.0 halves, c.colour_halves.ensures.cost j fits, c.degree_of-degree.ensures.cost, c.halve_known-middle.ensures.cost))
+    both_steps _ _ _ _ c.requires.part.0 halves c.degree_of-degree.result k c.half_of-half.result (5 * length c.args.part.now + MAX_MODULES) _ _ (omega arith)
+    c.half_of-half.ensures (omega (arith, few, c.degree_of-degree.ensures.most)) (omega arith)
+    (λ j fits. omega (
+      arith,
+      both_lengths _ _ _ _ c.requires.part.0 halves,
+      c.colour_halves.ensures.cost j fits,
+      c.degree_of-degree.ensures.cost,
+      c.halve_known-middle.ensures.cost,
+    ))
 
 pub returns-in_err-right-clause-cost : goal.returns-in_err-right-clause-cost
 returns-in_err-right-clause-cost t c k few =
     let halves = cut _ _ _ _ _ _ c.split_at_mut-left.ensures.front c.split_at_mut-left.ensures.back c.halve_known-middle.ensures.halves in
-    both_steps _ _ _ _ c.requires.part.0 halves c.degree_of-degree.result k c.half_of-half.result (5 * length c.args.part.now + MAX_MODULES) _ _ (omega arith) c.half_of-half.ensures (omega (arith, few, c.degree_of-degree.ensures.most)) (omega arith) (λ j fits. omega (arith, both_lengths _ _ _ _ c.requires.part.0 halves, c.colour_halves.ensures.cost j fits, c.colour_halves-2.ensures.cost j fits, c.degree_of-degree.ensures.cost, c.halve_known-middle.ensures.cost))
+    both_steps _ _ _ _ c.requires.part.0 halves c.degree_of-degree.result k c.half_of-half.result (5 * length c.args.part.now + MAX_MODULES) _ _ (omega arith)
+    c.half_of-half.ensures (omega (arith, few, c.degree_of-degree.ensures.most)) (omega arith)
+    (λ j fits. omega (
+      arith,
+      both_lengths _ _ _ _ c.requires.part.0 halves,
+      c.colour_halves.ensures.cost j fits,
+      c.colour_halves-2.ensures.cost j fits,
+      c.degree_of-degree.ensures.cost,
+      c.halve_known-middle.ensures.cost,
+    ))
 
 pub returns-clause-cost : goal.returns-clause-cost
 returns-clause-cost t c k few =
     let halves = cut _ _ _ _ _ _ c.split_at_mut-left.ensures.front c.split_at_mut-left.ensures.back c.halve_known-middle.ensures.halves in
-    let joined = c.join_halves.ensures.cost c.args.graph.now c.args.part.now (record { front = _; back = _; is_part = c.requires.part.0; is_degree = c.degree_of-degree.ensures.degree; high = omega arith; halves = halves; front_coloured = c.in_ok-left.ensures.coloured; back_coloured = c.in_ok-right.ensures.coloured }) in
-    both_steps _ _ _ _ c.requires.part.0 halves c.degree_of-degree.result k c.half_of-half.result (30 * length c.args.part.now + 7 * MAX_MODULES * (c.degree_of-degree.result + 1) + 2 * MAX_MODULES) _ _ (omega arith) c.half_of-half.ensures (omega (arith, few, c.degree_of-degree.ensures.most)) (omega arith) (λ j fits. omega (arith, both_lengths _ _ _ _ c.requires.part.0 halves, joined, c.colour_halves.ensures.cost j fits, c.colour_halves-2.ensures.cost j fits, c.degree_of-degree.ensures.cost, c.halve_known-middle.ensures.cost))
+    let joined = c.join_halves.ensures.cost c.args.graph.now c.args.part.now
+    (record {
+      front = _;
+      back = _;
+      is_part = c.requires.part.0;
+      is_degree = c.degree_of-degree.ensures.degree;
+      high = omega arith;
+      halves =
+          halves;
+      front_coloured = c.in_ok-left.ensures.coloured;
+      back_coloured = c.in_ok-right.ensures.coloured;
+    }) in
+    both_steps _ _ _ _ c.requires.part.0 halves c.degree_of-degree.result k c.half_of-half.result
+    (30 * length c.args.part.now + 7 * MAX_MODULES * (c.degree_of-degree.result + 1) + 2 * MAX_MODULES) _ _ (omega arith) c.half_of-half.ensures
+    (omega (arith, few, c.degree_of-degree.ensures.most)) (omega arith)
+    (λ j fits. omega (
+      arith,
+      both_lengths _ _ _ _ c.requires.part.0 halves,
+      joined,
+      c.colour_halves.ensures.cost j fits,
+      c.colour_halves-2.ensures.cost j fits,
+      c.degree_of-degree.ensures.cost,
+      c.halve_known-middle.ensures.cost,
+    ))

@@ -12,4 +12,13 @@ returns c =
     c.in_ok-push_text_start.ensures
     c.in_ok-push_str.ensures.bytes
     c.write.ensures.bytes
-    (simp (append_assoc, c.arrow.ensures, c.module_at-partner.ensures, c.other.ensures, c.column_left-left.ensures.value, c.top.ensures.value, c.module_at.ensures, c.half_below.ensures.value))
+    (simp (
+      append_assoc,
+      c.arrow.ensures,
+      c.module_at-partner.ensures,
+      c.other.ensures,
+      c.column_left-left.ensures.value,
+      c.top.ensures.value,
+      c.module_at.ensures,
+      c.half_below.ensures.value,
+    ))

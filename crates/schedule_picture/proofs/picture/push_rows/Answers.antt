@@ -9,7 +9,8 @@ use Rattle.schedule_picture.proofs.picture.push_rows.Goals as goal
 pub loop-module-preserved : goal.loop-module-preserved
 loop-module-preserved c =
     let f = row_text c.args.rows.now c.args.columns c.args.busiest in
-    c.in_ok-push_row.ensures ∙ ap (λ (x : List ℕ). x ++ f c.loop-module.«module») c.loop-module.invariant ∙ more_parts f (string_bytes c.args.text.now) c.loop-module.«module»
+    c.in_ok-push_row.ensures ∙ ap (λ (x : List ℕ). x ++ f c.loop-module.«module») c.loop-module.invariant ∙ more_parts f (string_bytes c.args.text.now)
+    c.loop-module.«module»
 
 pub returns : goal.returns
 unfolding rows_text

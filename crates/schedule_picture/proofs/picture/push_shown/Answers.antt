@@ -20,4 +20,5 @@ unfolding shown_words
 returns c =
     one c.write-2.result _ _ _ (shown_words c.args.settings c.args.shown)
     c.write-2.ensures.bytes
-    (rw (ne_eqb c.args.shown.count c.args.settings c.if-shown-settings.false, ne_eqb c.args.shown.count 1 c.if-shown-eq1.false) (simp (append_assoc, c.saturating_sub-last.ensures)))
+    (rw (ne_eqb c.args.shown.count c.args.settings c.if-shown-settings.false, ne_eqb c.args.shown.count 1 c.if-shown-eq1.false)
+    (simp (append_assoc, c.saturating_sub-last.ensures)))

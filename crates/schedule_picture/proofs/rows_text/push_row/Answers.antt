@@ -7,6 +7,7 @@ pub loop-panel-preserved : goal.loop-panel-preserved
 loop-panel-preserved c =
     let f = part_text c.args.rows.now c.args.columns c.args.busiest c.args.«module» in
     record {
-      so_far = c.in_ok-push_part.ensures ∙ ap (λ (x : List ℕ). x ++ f c.loop-panel.panel) c.loop-panel.invariant.so_far ∙ more_parts f (string_bytes c.args.text.now) c.loop-panel.panel;
+      so_far = c.in_ok-push_part.ensures ∙ ap (λ (x : List ℕ). x ++ f c.loop-panel.panel) c.loop-panel.invariant.so_far
+          ∙ more_parts f (string_bytes c.args.text.now) c.loop-panel.panel;
       all = c.loop-panel.invariant.all;
     }

@@ -8,5 +8,6 @@ use Rattle.schedule_picture.proofs.rules.are_joined.Goals as goal
 
 pub returns : goal.returns
 returns c =
-    any_from_yields_List (λ (t : ℕ). are_partners (members c.args.transfers.now (t ∷ [])) c.args.start c.args.answer) _ _ _ c.any.ensures.ran (YieldsList-from_slice c.args.setting.now cc) (λ x b q k. search (rules, tests))
+    any_from_yields_List (λ (t : ℕ). are_partners (members c.args.transfers.now (t ∷ [])) c.args.start c.args.answer) _ _ _ c.any.ensures.ran
+    (YieldsList-from_slice c.args.setting.now cc) (λ x b q k. search (rules, tests))
     ∙ any_one_by_one (λ x. x.initiator == c.args.start && x.responder == c.args.answer) c.args.transfers.now c.args.setting.now

@@ -8,5 +8,6 @@ use Rattle.schedule_picture.proofs.rules.join_within.Goals as goal
 
 pub returns : goal.returns
 returns c =
-    all_from_yields_List (λ (t : ℕ). join_within (members c.args.transfers.now (t ∷ [])) (members c.args.transfers.now c.args.other.now)) _ _ _ c.all.ensures.ran (YieldsList-from_slice c.args.setting.now cc) (λ x b q k. search (rules, tests))
+    all_from_yields_List (λ (t : ℕ). join_within (members c.args.transfers.now (t ∷ [])) (members c.args.transfers.now c.args.other.now)) _ _ _
+    c.all.ensures.ran (YieldsList-from_slice c.args.setting.now cc) (λ x b q k. search (rules, tests))
     ∙ all_one_by_one (λ x. are_partners (members c.args.transfers.now c.args.other.now) x.initiator x.responder) c.args.transfers.now c.args.setting.now

@@ -5,4 +5,9 @@ use Rattle.schedule_picture.proofs.verdict.verdict_on.Goals as goal
 pub least-requires-clause-most : goal.least-requires-clause-most
 least-requires-clause-most c link =
     let busiest = c.busiest-busiest.result in
-    omega (arith, most_used c.in_ok-graph.graph busiest link (busiest_of c.in_ok-graph.graph busiest c.busiest-busiest.ensures.none c.busiest-busiest.ensures.most), c.uses-fewest.ensures)
+    omega (
+      arith,
+      most_used c.in_ok-graph.graph busiest link
+          (busiest_of c.in_ok-graph.graph busiest c.busiest-busiest.ensures.none c.busiest-busiest.ensures.most),
+      c.uses-fewest.ensures,
+    )

@@ -26,5 +26,6 @@ returns g t c started each =
     let seat = c.in-Some.seat in
     let first : left ≡ seat ∷ more = c.in-Some.ensures.items in
     let pushed : c.push.new.self.items ≡ c.args.threads.items ++ c.start.result ∷ [] = rw c.unwrap.ensures at c.push.ensures.items in
-    subst (λ (seats : List SeatState). AreEach (IsThreadOf g.K.EntryLog.loses g.D.ClientStreams.known g.D.ClientStreams.received x.exchange.now (g.D.ClientStreams.known x.streams.now) x.latch.now.id) seats c.start_rest.result.items) (moved (started ++ left) started left more seat first refl)
+    subst (λ (seats : List SeatState). AreEach (IsThreadOf g.K.EntryLog.loses g.D.ClientStreams.known g.D.ClientStreams.received x.exchange.now
+    (g.D.ClientStreams.known x.streams.now) x.latch.now.id) seats c.start_rest.result.items) (moved (started ++ left) started left more seat first refl)
     (c.start_rest.ensures (started ++ seat ∷ []) (rw pushed (each_push _ started c.args.threads.items seat c.start.result each c.start.ensures)))

@@ -9,17 +9,22 @@ start_rest-threads-requires-clause-seats g c κs within =
     rw c.into_iter.ensures.rest (all_fresh c.args.context.now.exchange.now (greatest g.L.ExchangeName.earlier) _ c.args.seats.items c.requires.seats)
 
 pub join_all-back-requires-clause-started : goal.join_all-back-requires-clause-started
-join_all-back-requires-clause-started g c κs within =
-    (c.args.seats.items, each_from_none _ c.args.seats.items _ _ c.start_rest-threads.result.items c.in-Ok.ensures.items c.into_iter.ensures.rest c.start_rest-threads.ensures)
+join_all-back-requires-clause-started g c κs within = (
+  c.args.seats.items,
+  each_from_none _ c.args.seats.items _ _ c.start_rest-threads.result.items c.in-Ok.ensures.items c.into_iter.ensures.rest
+      c.start_rest-threads.ensures,
+)
 
 pub join_all-back-requires-clause-room_for_seats : goal.join_all-back-requires-clause-room_for_seats
 join_all-back-requires-clause-room_for_seats g c κs within =
-    let each = each_from_none _ c.args.seats.items _ _ c.start_rest-threads.result.items c.in-Ok.ensures.items c.into_iter.ensures.rest c.start_rest-threads.ensures in
+    let each = each_from_none _ c.args.seats.items _ _ c.start_rest-threads.result.items c.in-Ok.ensures.items c.into_iter.ensures.rest
+    c.start_rest-threads.ensures in
     omega (arith, each_length _ c.args.seats.items c.start_rest-threads.result.items each, c.requires.seats.count, c.requires.room.seats)
 
 pub join_all-back-requires-clause-room_for_endings : goal.join_all-back-requires-clause-room_for_endings
 join_all-back-requires-clause-room_for_endings g c κs within =
-    let each = each_from_none _ c.args.seats.items _ _ c.start_rest-threads.result.items c.in-Ok.ensures.items c.into_iter.ensures.rest c.start_rest-threads.ensures in
+    let each = each_from_none _ c.args.seats.items _ _ c.start_rest-threads.result.items c.in-Ok.ensures.items c.into_iter.ensures.rest
+    c.start_rest-threads.ensures in
     omega (arith, each_length _ c.args.seats.items c.start_rest-threads.result.items each, c.requires.seats.count, c.requires.room.endings)
 
 pub returns-then-begins-clause-hosted : goal.returns-then-begins-clause-hosted
@@ -28,8 +33,10 @@ returns-then-begins-clause-hosted g c =
     let known = g.D.ClientStreams.known c.args.context.now.streams.now in
     let back = c.join_all-back.result in
     let is : begins known.clients c.init-decided.result.value ≡ true = rw c.clients.ensures at (sym c.begins.ensures ∙ c.if-begins.true) in
-    begun_all g.K.EntryLog.loses x (greatest g.L.ExchangeName.earlier) known g.D.ClientStreams.received c.init-decided.result.value c.args.seats.items back.seats.items back.endings.items is
-    (c.join_all-back.ensures c.args.seats.items (each_from_none _ c.args.seats.items _ _ c.start_rest-threads.result.items c.in-Ok.ensures.items c.into_iter.ensures.rest c.start_rest-threads.ensures)) c.requires.seats
+    begun_all g.K.EntryLog.loses x (greatest g.L.ExchangeName.earlier) known g.D.ClientStreams.received c.init-decided.result.value c.args.seats.items
+    back.seats.items back.endings.items is
+    (c.join_all-back.ensures c.args.seats.items (each_from_none _ c.args.seats.items _ _ c.start_rest-threads.result.items c.in-Ok.ensures.items
+    c.into_iter.ensures.rest c.start_rest-threads.ensures)) c.requires.seats
 
 pub returns : goal.returns
 returns g c =
@@ -40,6 +47,8 @@ returns g c =
     record {
       hosted = tt;
       refusal = inl refl;
-      back = begun_none g.K.EntryLog.loses x (greatest g.L.ExchangeName.earlier) known g.D.ClientStreams.received c.init-decided.result.value c.args.seats.items back.seats.items back.endings.items is
-          (c.join_all-back.ensures c.args.seats.items (each_from_none _ c.args.seats.items _ _ c.start_rest-threads.result.items c.in-Ok.ensures.items c.into_iter.ensures.rest c.start_rest-threads.ensures)) c.requires.seats;
+      back = begun_none g.K.EntryLog.loses x (greatest g.L.ExchangeName.earlier) known g.D.ClientStreams.received c.init-decided.result.value c.args.seats.items
+          back.seats.items back.endings.items is
+          (c.join_all-back.ensures c.args.seats.items (each_from_none _ c.args.seats.items _ _ c.start_rest-threads.result.items c.in-Ok.ensures.items
+          c.into_iter.ensures.rest c.start_rest-threads.ensures)) c.requires.seats;
     }

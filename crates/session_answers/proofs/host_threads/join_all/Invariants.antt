@@ -12,7 +12,10 @@ invariant-loop-started g l =
     (length l.fn.threads.items ≤ vec_capacity l.back.endings) ×
     (length l.back.seats.items + length (into_iter_items l.started-iterator) ≡ length l.fn.threads.items) ×
     (length l.back.endings.items ≤ length l.back.seats.items) ×
-    ((seats : List SeatState) → AreEach (IsThreadOf g.K.EntryLog.loses g.D.ClientStreams.known g.D.ClientStreams.received l.fn.context.exchange.now (g.D.ClientStreams.known l.fn.context.streams.now) l.fn.context.latch.now.id) seats l.fn.threads.items →
+    ((seats : List SeatState) → AreEach (IsThreadOf g.K.EntryLog.loses g.D.ClientStreams.known g.D.ClientStreams.received l.fn.context.exchange.now
+    (g.D.ClientStreams.known l.fn.context.streams.now) l.fn.context.latch.now.id) seats l.fn.threads.items →
     (done : List SeatState) × (rest : List SeatState) × (done ++ rest ≡ seats) ×
-    AreEach (IsThreadOf g.K.EntryLog.loses g.D.ClientStreams.known g.D.ClientStreams.received l.fn.context.exchange.now (g.D.ClientStreams.known l.fn.context.streams.now) l.fn.context.latch.now.id) rest (into_iter_items l.started-iterator) ×
-    HaveReturned g.K.EntryLog.loses l.fn.context.exchange.now (g.D.ClientStreams.known l.fn.context.streams.now) g.D.ClientStreams.received (begins (g.D.ClientStreams.known l.fn.context.streams.now).clients l.fn.decided.value) done l.back.seats.items l.back.endings.items)
+    AreEach (IsThreadOf g.K.EntryLog.loses g.D.ClientStreams.known g.D.ClientStreams.received l.fn.context.exchange.now
+    (g.D.ClientStreams.known l.fn.context.streams.now) l.fn.context.latch.now.id) rest (into_iter_items l.started-iterator) ×
+    HaveReturned g.K.EntryLog.loses l.fn.context.exchange.now (g.D.ClientStreams.known l.fn.context.streams.now) g.D.ClientStreams.received
+    (begins (g.D.ClientStreams.known l.fn.context.streams.now).clients l.fn.decided.value) done l.back.seats.items l.back.endings.items)

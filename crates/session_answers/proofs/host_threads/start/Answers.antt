@@ -13,7 +13,8 @@ spawn_with-requires-send-F g c κs within =
     let k = c.type_bounds.send-K in
     let e = c.type_bounds.send-K-Pending in
     let q = c.type_bounds.send-K-Recorder in
-    let x = λ (a : NamedLft). context_sync a (param 1 g.row.L) _ _ _ _ _ g.L.ExchangeName g.K.EntryLog g.K.Pending.PendingEntries g.K.Pending.EntryLog g.K.Recorder.Recorder g.L.Ledger g.L.HistoryName r d k e q in
+    let x = λ (a : NamedLft). context_sync a (param 1 g.row.L) _ _ _ _ _ g.L.ExchangeName g.K.EntryLog g.K.Pending.PendingEntries g.K.Pending.EntryLog
+    g.K.Recorder.Recorder g.L.Ledger g.L.HistoryName r d k e q in
     let s = seat_send (param 1 g.row.L) g.L.ExchangeName g.L.HistoryName g.L.Ledger in
     search (crosses, sendable) depth 60 fits 20000
 

@@ -6,4 +6,5 @@ use Rattle.session_answers.specs.HostAnswers.{has_failed}
 use Rattle.session_answers.proofs.hosting.any_failed.Goals as goal
 
 pub returns : goal.returns
-returns g c = any_from_yields_List (λ (e : Ending g.row.C.Denot). has_failed e) _ _ _ c.any.ensures.ran (YieldsList-from_slice c.args.endings.now cc) (λ x b q k. search (rules, tests))
+returns g c = any_from_yields_List (λ (e : Ending g.row.C.Denot). has_failed e) _ _ _ c.any.ensures.ran (YieldsList-from_slice c.args.endings.now cc)
+    (λ x b q k. search (rules, tests))

@@ -17,5 +17,6 @@ loop-ending-preserved g c =
       omega (arith, inv.0),
       omega (arith, inv.1, c.put_hosted.ensures.capacity),
       omega (arith, inv.2, c.put_hosted.ensures.room, room_more known k),
-      one_more_end known c.args.endings.now c.loop-ending.ending-index k c.ending-item.result c.loop-ending.text.items c.put_hosted.new.text.items (omega arith) inv.0 c.ending-item.is inv.3 c.put_hosted.ensures.text,
+      one_more_end known c.args.endings.now c.loop-ending.ending-index k c.ending-item.result c.loop-ending.text.items c.put_hosted.new.text.items (omega arith)
+          inv.0 c.ending-item.is inv.3 c.put_hosted.ensures.text,
     )

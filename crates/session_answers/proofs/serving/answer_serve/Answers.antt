@@ -9,7 +9,8 @@ pub returns : goal.returns
 returns g c =
     let left = c.in_ok-answer.field-0 in
     let opening : c.in-Ok-new.book.opening ≡ c.in-Ok.rack = ap (λ (a : BookView). a.opening) c.in-Ok-new.ensures.ok in
-    served c.in-Ok.rack c.in-Ok.ensures.rack (subst (λ (s : Store). AreServed s (map (λ v. v.items) c.args.scripts.now) left.answer (Some left.book)) opening c.in_ok-answer.ensures)
+    served c.in-Ok.rack c.in-Ok.ensures.rack (subst (λ (s : Store). AreServed s (map (λ v. v.items) c.args.scripts.now) left.answer (Some left.book)) opening
+    c.in_ok-answer.ensures)
 
 pub returns-in-Err : goal.returns-in-Err
 returns-in-Err g c =

@@ -11,7 +11,8 @@ pub returns : goal.returns
 returns g c =
     both c.map_vec.result c.map_vec.ensures.len c.map_vec.ensures.each
     (λ sessions len each.
-    all_served c.args.exchange.now _ _ _ c.args.seats.items sessions.items (sym (length-map c.args.scripts.now _)) c.requires.seats (omega (arith, len, sessions.ok.0, c.args.seats.ok.0))
+    all_served c.args.exchange.now _ _ _ c.args.seats.items sessions.items (sym (length-map c.args.scripts.now _)) c.requires.seats
+    (omega (arith, len, sessions.ok.0, c.args.seats.ok.0))
     (λ k s lt. let j = (each k s lt).1 in record { seat = j.job; at = j.job_is; same = j.call.met.0; its = j.call.met.1 }))
 
 pub map_vec-requires-send-J : goal.map_vec-requires-send-J

@@ -16,7 +16,8 @@ returns-in-Err-clause-beside g c = tells_nothing _
 pub serve_client-seat-requires-clause-seat : goal.serve_client-seat-requires-clause-seat
 serve_client-seat-requires-clause-seat g c κs within =
     let made = c.in-Ok-open_exchange.made in
-    (alone made.0 (greatest g.L.ExchangeName.earlier) made.1.items c.pop.new.self.items c.in-Some.seat c.in-Ok-open_exchange.ensures.seats c.in-Some.ensures.items).fresh
+    (alone made.0 (greatest g.L.ExchangeName.earlier) made.1.items c.pop.new.self.items c.in-Some.seat c.in-Ok-open_exchange.ensures.seats
+    c.in-Some.ensures.items).fresh
 
 pub finish-requires-clause-seats : goal.finish-requires-clause-seats
 finish-requires-clause-seats g c κs within =
@@ -49,7 +50,9 @@ returns-clause-session g c =
     let fails : failed ≡ is_some fault = search rules in (
       s.0,
       s.1,
-      has_talked loses g.L.ExchangeName.opening earlier was made.0 start rest seat back _ _ c.put.new.text.items s.0 fault failed one c.serve_client-seat.ensures.same begun c.requires.named.opening c.requires.named.entries
-          (rw (c.in-Ok.ensures.items, c.end_line.ensures.line) at c.put.ensures.items) fails s.2 c.finish.result.answer c.finish.result.book (rw pushed at c.finish.ensures.closing),
+      has_talked loses g.L.ExchangeName.opening earlier was made.0 start rest seat back _ _ c.put.new.text.items s.0 fault failed one
+          c.serve_client-seat.ensures.same begun c.requires.named.opening c.requires.named.entries
+          (rw (c.in-Ok.ensures.items, c.end_line.ensures.line) at c.put.ensures.items) fails s.2 c.finish.result.answer c.finish.result.book
+          (rw pushed at c.finish.ensures.closing),
       tt,
     )

@@ -14,5 +14,7 @@ returns-in-Push-clause-carried g c =
     let block = c.args.bay.now.place.block in
     let old = g.W.Wire.carried c.args.wire.now in
     let new = g.W.Wire.carried c.push_block.new.wire in
-    subst (λ (k : Kind). HasCarried (sent k (window_of rest source) shape block source.block (found_in rest source)) shape.words c.push_block.result old new) (sym c.in-Push.is)
-    (subst (λ (p : Place). HasCarried (pushed shape block (found_in rest p)) shape.words c.push_block.result old new) c.source.ensures c.push_block.ensures.carried)
+    subst (λ (k : Kind). HasCarried (sent k (window_of rest source) shape block source.block (found_in rest source)) shape.words c.push_block.result old new)
+    (sym c.in-Push.is)
+    (subst (λ (p : Place). HasCarried (pushed shape block (found_in rest p)) shape.words c.push_block.result old new) c.source.ensures
+    c.push_block.ensures.carried)

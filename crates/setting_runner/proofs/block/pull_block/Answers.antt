@@ -11,5 +11,6 @@ pub returns-in-Some-clause-carried : goal.returns-in-Some-clause-carried
 returns-in-Some-clause-carried g c =
     let rest = c.args.rest.now in
     let p = c.args.source in
-    subst (λ (x : ℕ). HasCarried (pulled x rest.store.shape p.block (found_in rest p)) rest.store.shape.words c.pull_words.result (g.W.Wire.carried c.args.wire.now) (g.W.Wire.carried c.pull_words.new.wire))
+    subst (λ (x : ℕ). HasCarried (pulled x rest.store.shape p.block (found_in rest p)) rest.store.shape.words c.pull_words.result
+    (g.W.Wire.carried c.args.wire.now) (g.W.Wire.carried c.pull_words.new.wire))
     (sym (held_window rest p c.in-Some.store c.in-Some.ensures)) c.pull_words.ensures.carried

@@ -15,7 +15,8 @@ pull_word-requires-clause-has g c =
     let inv = c.loop-j.invariant in
     let j = c.loop-j.j in
     let below : j < c.args.rest.now.store.shape.words = omega (arith, inv.end) in
-    let at : c.address_in-address.result ≡ address_from c.args.window c.args.rest.now.store.shape c.args.source.block j = c.address_in-address.ensures ∙ ap (λ (e : ShapeView). address_from c.args.window e c.args.source.block j) inv.shape in
+    let at : c.address_in-address.result ≡ address_from c.args.window c.args.rest.now.store.shape c.args.source.block j = c.address_in-address.ensures
+    ∙ ap (λ (e : ShapeView). address_from c.args.window e c.args.source.block j) inv.shape in
     ap is_ok (ap₂ (λ (x : _) (y : ℕ). g.S.WordStore.read_gives x y) inv.store at ∙ c.requires.reads j below)
 
 pub loop-j-preserved : goal.loop-j-preserved
@@ -25,8 +26,10 @@ loop-j-preserved g c =
     let a = found_in c.args.rest.now c.args.source in
     let old = c.args.bay.now.words in
     let below : j < c.args.rest.now.store.shape.words = omega (arith, inv.end) in
-    let at : c.address_in-address.result ≡ address_from c.args.window c.args.rest.now.store.shape c.args.source.block j = c.address_in-address.ensures ∙ ap (λ (e : ShapeView). address_from c.args.window e c.args.source.block j) inv.shape in
-    let word : c.in-Ok.word ≡ get_or a j 0 = ok_word c.in-Ok.word (get_or a j 0) (g.S.WordStore.read_gives c.loop-j.store c.address_in-address.result) c.in-Ok.ensures.read
+    let at : c.address_in-address.result ≡ address_from c.args.window c.args.rest.now.store.shape c.args.source.block j = c.address_in-address.ensures
+    ∙ ap (λ (e : ShapeView). address_from c.args.window e c.args.source.block j) inv.shape in
+    let word : c.in-Ok.word ≡ get_or a j 0 = ok_word c.in-Ok.word (get_or a j 0) (g.S.WordStore.read_gives c.loop-j.store c.address_in-address.result)
+    c.in-Ok.ensures.read
     (ap₂ (λ (x : _) (y : ℕ). g.S.WordStore.read_gives x y) inv.store at ∙ c.requires.reads j below) in
     let words = ap (λ (x : BlockAt). x.words) c.set.ensures in
     let sending = pulled c.args.window c.args.rest.now.store.shape c.args.source.block a in
@@ -38,9 +41,11 @@ loop-j-preserved g c =
       store = c.pull_word.ensures.unchanged ∙ inv.store;
       place = ap (λ (x : BlockAt). x.place) c.set.ensures ∙ inv.place;
       width = ap (λ (x : List ℕ). length x) words ∙ (length-set c.loop-j.bay.words j c.in-Ok.word ∙ inv.width);
-      words = words ∙ ap₂ (λ (x : List ℕ) (y : ℕ). set x j y) inv.words word ∙ prefix_step a old j (c.requires.source_here ∙ sym c.requires.bay_width) (omega (arith, c.requires.source_here, ap (λ (x : ShapeView). x.words) inv.shape));
+      words = words ∙ ap₂ (λ (x : List ℕ) (y : ℕ). set x j y) inv.words word ∙ prefix_step a old j (c.requires.source_here ∙ sym c.requires.bay_width)
+          (omega (arith, c.requires.source_here, ap (λ (x : ShapeView). x.words) inv.shape));
       rest = search rules;
-      carried = one_more sending j (g.W.Wire.carried c.args.wire.now) (g.W.Wire.carried c.loop-j.wire) (g.W.Wire.carried c.pull_word.new.wire) (spell (Peek c.address_in-address.result) ++ word_bytes c.in-Ok.word) inv.carried (search rules) same;
+      carried = one_more sending j (g.W.Wire.carried c.args.wire.now) (g.W.Wire.carried c.loop-j.wire) (g.W.Wire.carried c.pull_word.new.wire)
+          (spell (Peek c.address_in-address.result) ++ word_bytes c.in-Ok.word) inv.carried (search rules) same;
       failures = search rules;
       sure = search rules;
     }
@@ -52,12 +57,14 @@ returns-in-Err-clause-carried g c =
     let a = found_in c.args.rest.now c.args.source in
     let word = get_or a j 0 in
     let below : j < c.args.rest.now.store.shape.words = omega (arith, inv.end) in
-    let at : c.address_in-address.result ≡ address_from c.args.window c.args.rest.now.store.shape c.args.source.block j = c.address_in-address.ensures ∙ ap (λ (e : ShapeView). address_from c.args.window e c.args.source.block j) inv.shape in
+    let at : c.address_in-address.result ≡ address_from c.args.window c.args.rest.now.store.shape c.args.source.block j = c.address_in-address.ensures
+    ∙ ap (λ (e : ShapeView). address_from c.args.window e c.args.source.block j) inv.shape in
     let there = ap₂ (λ (x : _) (y : ℕ). g.S.WordStore.read_gives x y) inv.store at ∙ c.requires.reads j below in
     let broken = c.in-Err.ensures.broken word there in
     let sending = pulled c.args.window c.args.rest.now.store.shape c.args.source.block a in
     let same : spell (Peek c.address_in-address.result) ++ word_bytes word ≡ sending j = ap (λ (x : ℕ). spell (Peek x) ++ word_bytes word) at in
     record {
       whole = λ all. absurd (omega arith);
-      short = λ _. cut_off sending j broken.count (g.W.Wire.carried c.args.wire.now) (g.W.Wire.carried c.loop-j.wire) (g.W.Wire.carried c.pull_word.new.wire) (spell (Peek c.address_in-address.result) ++ word_bytes word) inv.carried same broken.proper broken.carries;
+      short = λ _. cut_off sending j broken.count (g.W.Wire.carried c.args.wire.now) (g.W.Wire.carried c.loop-j.wire) (g.W.Wire.carried c.pull_word.new.wire)
+          (spell (Peek c.address_in-address.result) ++ word_bytes word) inv.carried same broken.proper broken.carries;
     }

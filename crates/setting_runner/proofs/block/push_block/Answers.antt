@@ -21,7 +21,8 @@ push_word-requires-clause-takes g c =
     let wide : length c.loop-j.bay.words ≡ s.words = inv.width ∙ sym (ap (λ (x : ShapeView). x.words) inv.shape) in
     let n : c.place-block.result.block ≡ c.loop-j.bay.place.block = inv.block ∙ sym (ap (λ (p : Place). p.block) inv.place) in
     let below : c.loop-j.j < s.words = omega (arith, ap (λ (x : ShapeView). x.words) inv.shape) in
-    ap is_ok (write_lands c.blocks-2.ensures.written WINDOW_START s c.loop-j.bay c.place-block.result.block _ c.loop-j.j _ refl wide below n c.address_in-address.ensures)
+    ap is_ok (write_lands c.blocks-2.ensures.written WINDOW_START s c.loop-j.bay c.place-block.result.block _ c.loop-j.j _ refl wide below n
+    c.address_in-address.ensures)
 
 pub loop-j-preserved : goal.loop-j-preserved
 loop-j-preserved g c =
@@ -36,7 +37,8 @@ loop-j-preserved g c =
     let below : j < s.words = omega (arith, ap (λ (x : ShapeView). x.words) inv.shape) in
     let word : w ≡ get_or a j 0 = ap (λ (xs : List ℕ). get_or xs j 0) c.found_words-words.ensures in
     let written : block_write WINDOW_START c.loop-j.bay c.address_in-address.result w ≡ Ok c.push_word.new.store = search rules in
-    let new = written_is c.blocks-2.ensures.written WINDOW_START s c.loop-j.bay c.push_word.new.store c.place-block.result.block _ j w refl wide below n c.address_in-address.ensures written in
+    let new = written_is c.blocks-2.ensures.written WINDOW_START s c.loop-j.bay c.push_word.new.store c.place-block.result.block _ j w refl wide below n
+    c.address_in-address.ensures written in
     let words = ap (λ (x : BlockAt). x.words) new in
     let sending = pushed c.args.rest.now.store.shape c.args.bay.now.place.block a in
     let same : spell (Poke c.address_in-address.result w) ≡ sending j =
@@ -48,9 +50,11 @@ loop-j-preserved g c =
       found = inv.found;
       place = ap (λ (x : BlockAt). x.place) new ∙ inv.place;
       width = ap (λ (x : List ℕ). length x) words ∙ (length-set c.loop-j.bay.words j w ∙ inv.width);
-      words = words ∙ ap₂ (λ (x : List ℕ) (y : ℕ). set x j y) inv.words word ∙ prefix_step a b j (c.requires.source_here ∙ sym c.requires.bay_width) (omega (arith, c.requires.source_here, ap (λ (x : ShapeView). x.words) inv.shape));
+      words = words ∙ ap₂ (λ (x : List ℕ) (y : ℕ). set x j y) inv.words word ∙ prefix_step a b j (c.requires.source_here ∙ sym c.requires.bay_width)
+          (omega (arith, c.requires.source_here, ap (λ (x : ShapeView). x.words) inv.shape));
       rest = search rules;
-      carried = one_more sending j (g.W.Wire.carried c.args.wire.now) (g.W.Wire.carried c.loop-j.wire) (g.W.Wire.carried c.push_word.new.wire) (spell (Poke c.address_in-address.result w)) inv.carried (search rules) same;
+      carried = one_more sending j (g.W.Wire.carried c.args.wire.now) (g.W.Wire.carried c.loop-j.wire) (g.W.Wire.carried c.push_word.new.wire)
+          (spell (Poke c.address_in-address.result w)) inv.carried (search rules) same;
       failures = search rules;
       sure = search rules;
     }
@@ -65,9 +69,12 @@ returns-then-is_err-clause-carried g c =
     let word : w ≡ get_or a j 0 = ap (λ (xs : List ℕ). get_or xs j 0) c.found_words-words.ensures in
     let sending = pushed c.args.rest.now.store.shape c.args.bay.now.place.block a in
     let same : spell (Poke c.address_in-address.result w) ++ [] ≡ sending j =
-    append-nil (spell (Poke c.address_in-address.result w)) ∙ ap₂ (λ (x y : ℕ). spell (Poke x y)) (c.address_in-address.ensures ∙ ap₂ (λ (e : ShapeView) (n : ℕ). address_of e n j) inv.shape inv.block) word in
-    let broken : IsBrokenOff g.W.Wire.carried (spell (Poke c.address_in-address.result w)) [] c.loop-j.wire c.push_word.new.wire c.loop-j.answerer c.push_word.new.answerer = search rules in
+    append-nil (spell (Poke c.address_in-address.result w)) ∙ ap₂ (λ (x y : ℕ). spell (Poke x y))
+    (c.address_in-address.ensures ∙ ap₂ (λ (e : ShapeView) (n : ℕ). address_of e n j) inv.shape inv.block) word in
+    let broken : IsBrokenOff g.W.Wire.carried (spell (Poke c.address_in-address.result w)) [] c.loop-j.wire c.push_word.new.wire c.loop-j.answerer
+    c.push_word.new.answerer = search rules in
     record {
       whole = λ all. absurd (omega arith);
-      short = λ _. cut_off sending j broken.count (g.W.Wire.carried c.args.wire.now) (g.W.Wire.carried c.loop-j.wire) (g.W.Wire.carried c.push_word.new.wire) (spell (Poke c.address_in-address.result w) ++ []) inv.carried same broken.proper broken.carries;
+      short = λ _. cut_off sending j broken.count (g.W.Wire.carried c.args.wire.now) (g.W.Wire.carried c.loop-j.wire) (g.W.Wire.carried c.push_word.new.wire)
+          (spell (Poke c.address_in-address.result w) ++ []) inv.carried same broken.proper broken.carries;
     }

@@ -15,7 +15,8 @@ invariant-loop-j g l = record {
   width : length l.bay.words ≡ l.fn.rest.store.shape.words;
   words : l.bay.words ≡ moved_into l.j (found_in l.fn.rest l.fn.source) l.fn.bay.words;
   rest : IsAtRest l.answerer;
-  carried : g.W.Wire.carried l.wire ≡ g.W.Wire.carried l.fn.wire ++ first_sent (pushed l.fn.rest.store.shape l.fn.bay.place.block (found_in l.fn.rest l.fn.source)) l.j;
+  carried : g.W.Wire.carried l.wire ≡ g.W.Wire.carried l.fn.wire
+      ++ first_sent (pushed l.fn.rest.store.shape l.fn.bay.place.block (found_in l.fn.rest l.fn.source)) l.j;
   failures : g.W.Wire.failures l.wire ≡ g.W.Wire.failures l.fn.wire;
   sure : g.W.Wire.never_fails l.fn.wire → g.W.Wire.never_fails l.wire;
 }

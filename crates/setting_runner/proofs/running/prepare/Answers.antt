@@ -37,22 +37,36 @@ pub returns-in-Ok-part-clause-prepared : goal.returns-in-Ok-part-clause-prepared
 returns-in-Ok-part-clause-prepared c =
     let batch = c.args.batch.now in
     let settings = c.args.schedule.now in
-    let fits : FitsIn c.args.rack.shape batch = subst (λ (s : ShapeView). FitsIn s c.args.batch.now) c.shape.ensures.value (c.fits_in.ensures.0 c.if-not-fits_in.false) in
+    let fits : FitsIn c.args.rack.shape batch = subst (λ (s : ShapeView). FitsIn s c.args.batch.now) c.shape.ensures.value
+    (c.fits_in.ensures.0 c.if-not-fits_in.false) in
     let apart = c.in_default.ensures.none in
     let schedule = c.requires in
-    let ready : IsReady c.args.rack c.args.rack batch (concat settings) = record { opening_whole = c.shape.ensures.whole; whole = c.shape.ensures.whole; same_shape = refl; agrees = λ i l none. refl; places = fits; apart = apart; setting = all_settings batch settings schedule } in
+    let ready : IsReady c.args.rack c.args.rack batch (concat settings) =
+    record {
+      opening_whole = c.shape.ensures.whole;
+      whole = c.shape.ensures.whole;
+      same_shape = refl;
+      agrees = λ i l none. refl;
+      places = fits;
+      apart =
+          apart;
+      setting = all_settings batch settings schedule;
+    } in
     let rest = c.in-Ok-part.parted.rest in
     let lent = c.in-Ok-part.parted.bays.items in
     let store : store_rejoined rest.store lent ≡ c.args.rack = c.in-Ok-part.ensures.store in
     let places : c.as_slice.result.now ≡ destinations_in batch settings = c.as_slice.ensures.value ∙ c.in-Ok.ensures.places in
     let left : rest.store ≡ without c.args.rack (destinations_in batch settings) = c.in-Ok-part.ensures.rest ∙ ap (without c.args.rack) places in
     let held : AreHeldSources batch c.as_slice-2.result.now = subst (AreHeldSources batch) (sym c.as_slice-2.ensures.value) c.in-Ok-held_sources.ensures.held in
-    let found : AreFound (found_in rest) c.args.rack batch = sources_are_found c.args.rack batch (concat settings) c.as_slice-2.result.now rest ready left c.in-Ok-part.ensures.held held in
+    let found : AreFound (found_in rest) c.args.rack batch = sources_are_found c.args.rack batch (concat settings) c.as_slice-2.result.now rest ready left
+    c.in-Ok-part.ensures.held held in
     let bays : lent ≡ bays_of c.args.rack (destinations_in batch settings) = c.in-Ok-part.ensures.bays ∙ ap (bays_of c.args.rack) places in
     record {
       schedule = schedule;
       ready = subst (λ (s : Store). IsReady s s batch (concat settings)) (sym store) ready;
-      own_bays = λ k below. subst (λ (r : Store). HasOwnBays r lent batch settings k) (sym left) (subst (λ (b : List BlockAt). HasOwnBays (without c.args.rack (destinations_in batch settings)) b batch settings k) (sym bays) (setting_bays c.args.rack batch settings k ready below));
+      own_bays = λ k below. subst (λ (r : Store). HasOwnBays r lent batch settings k) (sym left)
+          (subst (λ (b : List BlockAt). HasOwnBays (without c.args.rack (destinations_in batch settings)) b batch settings k) (sym bays)
+          (setting_bays c.args.rack batch settings k ready below));
       rejoins = c.in-Ok-part.ensures.rejoins;
       found = subst (λ (s : Store). AreFound (found_in rest) s batch) (sym store) found;
     }
@@ -70,20 +84,37 @@ pub returns-clause-refusal : goal.returns-clause-refusal
 returns-clause-refusal c =
     let batch = c.args.batch.now in
     let settings = c.args.schedule.now in
-    let fits : FitsIn c.args.rack.shape batch = subst (λ (s : ShapeView). FitsIn s c.args.batch.now) c.shape.ensures.value (c.fits_in.ensures.0 c.if-not-fits_in.false) in
+    let fits : FitsIn c.args.rack.shape batch = subst (λ (s : ShapeView). FitsIn s c.args.batch.now) c.shape.ensures.value
+    (c.fits_in.ensures.0 c.if-not-fits_in.false) in
     let apart = c.in_default.ensures.none in
     let schedule = c.requires in
-    let ready : IsReady c.args.rack c.args.rack batch (concat settings) = record { opening_whole = c.shape.ensures.whole; whole = c.shape.ensures.whole; same_shape = refl; agrees = λ i l none. refl; places = fits; apart = apart; setting = all_settings batch settings schedule } in
+    let ready : IsReady c.args.rack c.args.rack batch (concat settings) =
+    record {
+      opening_whole = c.shape.ensures.whole;
+      whole = c.shape.ensures.whole;
+      same_shape = refl;
+      agrees = λ i l none. refl;
+      places = fits;
+      apart =
+          apart;
+      setting = all_settings batch settings schedule;
+    } in
     let places : c.as_slice.result.now ≡ destinations_in batch settings = c.as_slice.ensures.value ∙ c.in-Ok.ensures.places in
     let lendable = destinations_lendable c.args.rack batch (concat settings) ready in
     let held : AreHeldSources batch c.as_slice-2.result.now = subst (AreHeldSources batch) (sym c.as_slice-2.ensures.value) c.in-Ok-held_sources.ensures.held in
     let held_exist = held_places c.args.rack.shape batch c.as_slice-2.result.now held fits in
-    let some = lend_fault_is c.args.rack.shape c.as_slice.result.now c.as_slice-2.result.now c.in-Err._fault (subst (λ (ps : List Place). AreLendable c.args.rack.shape ps) (sym places) lendable) held_exist c.in-Err.ensures.fault in
+    let some = lend_fault_is c.args.rack.shape c.as_slice.result.now c.as_slice-2.result.now c.in-Err._fault
+    (subst (λ (ps : List Place). AreLendable c.args.rack.shape ps) (sym places) lendable) held_exist c.in-Err.ensures.fault in
     record {
       apart = apart;
       fits = fits;
       some = elim some [
-        | inl lent ↦ omega (arith, ap (length {A = Place}) places, length-map (concat settings) (destination_at batch), numbers_are_counted batch settings schedule)
+        | inl lent ↦ omega (
+          arith,
+          ap (length {A = Place}) places,
+          length-map (concat settings) (destination_at batch),
+          numbers_are_counted batch settings schedule,
+        )
         | inr one ↦ held_is_read batch c.as_slice-2.result.now held one
       ];
     }

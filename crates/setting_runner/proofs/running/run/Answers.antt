@@ -8,18 +8,23 @@ use Rattle.setting_runner.proofs.Starting.{going_no_memory, going_no_overlap, go
 use Rattle.setting_runner.proofs.running.run.Goals as goal
 
 pub run_settings-outcome-requires-clause-prepared : goal.run_settings-outcome-requires-clause-prepared
-run_settings-outcome-requires-clause-prepared g c κs within = subst (λ (bays : List BlockAt). IsPrepared c.in-Ok.parted.rest bays c.args.batch.now c.args.schedule.now) (sym c.as_mut_slice.ensures.value) c.in-Ok.ensures.prepared
+run_settings-outcome-requires-clause-prepared g c κs within =
+    subst (λ (bays : List BlockAt). IsPrepared c.in-Ok.parted.rest bays c.args.batch.now c.args.schedule.now) (sym c.as_mut_slice.ensures.value)
+    c.in-Ok.ensures.prepared
 
 pub returns-in-Ok-clause-plant : goal.returns-in-Ok-clause-plant
 returns-in-Ok-clause-plant g c =
-    subst (λ (x : ShapeView). LeavesPlant g.P.ConfigPort g.W.WireMaker.is_sure x (Some (c.args.batch.now, c.args.schedule.now)) c.run_settings-outcome.result c.args.plant.now c.run_settings-outcome.new.plant)
+    subst (λ (x : ShapeView). LeavesPlant g.P.ConfigPort g.W.WireMaker.is_sure x (Some (c.args.batch.now, c.args.schedule.now)) c.run_settings-outcome.result
+    c.args.plant.now c.run_settings-outcome.new.plant)
     c.in-Ok.ensures.shape c.run_settings-outcome.ensures.plant
 
 pub returns-in-Ok-clause-overlap : goal.returns-in-Ok-clause-overlap
-returns-in-Ok-clause-overlap g c = going_no_overlap c.args.rack.shape c.args.batch.now c.run_settings-outcome.result c.run_settings-outcome.ensures.going c.in-Ok.ensures.free
+returns-in-Ok-clause-overlap g c = going_no_overlap c.args.rack.shape c.args.batch.now c.run_settings-outcome.result c.run_settings-outcome.ensures.going
+    c.in-Ok.ensures.free
 
 pub returns-in-Ok-clause-shape : goal.returns-in-Ok-clause-shape
-returns-in-Ok-clause-shape g c = going_no_shape c.args.rack.shape c.args.batch.now c.run_settings-outcome.result c.run_settings-outcome.ensures.going c.in-Ok.ensures.free
+returns-in-Ok-clause-shape g c = going_no_shape c.args.rack.shape c.args.batch.now c.run_settings-outcome.result c.run_settings-outcome.ensures.going
+    c.in-Ok.ensures.free
 
 pub returns-in-Ok-clause-memory : goal.returns-in-Ok-clause-memory
 returns-in-Ok-clause-memory g c = going_no_memory c.args.rack.shape c.args.batch.now c.run_settings-outcome.result c.run_settings-outcome.ensures.going

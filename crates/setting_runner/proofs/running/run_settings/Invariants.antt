@@ -15,7 +15,8 @@ invariant-loop-number g l = record {
   standing : AreStanding l.rest.store.shape.modules (g.P.ConfigPort.honest l.fn.plant.port) (g.P.ConfigPort.switches l.plant.port) l.standing;
   known : l.standing ≡ standing_before l.batch l.schedule l.number;
   replied : HaveAllReplied l.rest.store.shape.modules l.batch l.schedule l.number (g.P.ConfigPort.passed l.fn.plant.port) (g.P.ConfigPort.passed l.plant.port);
-  switches : (k : ℕ) → k + 1 ≡ l.number → IsTrue (g.P.ConfigPort.honest l.fn.plant.port) → AreSettingSwitches l.rest.store.shape l.batch l.schedule k (g.P.ConfigPort.switches l.plant.port);
+  switches : (k : ℕ) → k + 1 ≡ l.number → IsTrue (g.P.ConfigPort.honest l.fn.plant.port) → AreSettingSwitches l.rest.store.shape l.batch l.schedule k
+      (g.P.ConfigPort.switches l.plant.port);
   uncalled : l.number ≡ 0 → l.plant ≡ l.fn.plant;
   plant : l.plant ≡ record l.fn.plant { port = l.plant.port };
   unfailed : g.P.ConfigPort.failures l.plant.port ≡ g.P.ConfigPort.failures l.fn.plant.port;

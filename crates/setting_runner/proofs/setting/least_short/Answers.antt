@@ -29,7 +29,8 @@ loop-entry-preserved c =
       | else-from-words w ↦
           subst (IsLeastOf words more) (sym w.least-is) (elim w.else-from-words.branch [
             | else-from-words-via-then-from-words+else-is_lesser w' ↦
-                greater_changes_none words (take i ms) m least before (λ less. false≢true (sym w'.if-is_lesser.false ∙ w'.is_lesser.ensures.1 (subst (λ (n : ℕ). IfSome least (λ t. n < t)) (sym number) less)))
+                greater_changes_none words (take i ms) m least before
+                (λ less. false≢true (sym w'.if-is_lesser.false ∙ w'.is_lesser.ensures.1 (subst (λ (n : ℕ). IfSome least (λ t. n < t)) (sym number) less)))
             | else-from-words-via-else-from-words w' ↦ whole_changes_none words (take i ms) m least before (omega (arith, count, w'.if-from-words.false))
           ])
     ])

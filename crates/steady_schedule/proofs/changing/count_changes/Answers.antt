@@ -27,20 +27,27 @@ loop-k-preserved c =
     let k = c.loop-k.k in
     let setting = c.unwrap-setting.result.now in
     let here : slice_get settings k ≡ Some setting = sym (rw c.unwrap-setting.ensures at c.setting-in-loop-k.ensures) in
-    let same : c.join_same.result ≡ join_same batch (get_or settings (k - 1) []) setting = c.join_same.ensures ∙ ap (λ (b : List ℕ). join_same batch b setting) c.loop-k.invariant.before in
+    let same : c.join_same.result ≡ join_same batch (get_or settings (k - 1) []) setting = c.join_same.ensures ∙ ap (λ (b : List ℕ). join_same batch b setting)
+    c.loop-k.invariant.before in
     let counts : c.if-not-join_same.count ≡ c.loop-k.count + change c.join_same.result = elim c.if-not-join_same.branch [
       | then-not-join_same w ↦ omega (arith, w.count-is, ap change w.if-not-join_same.true)
       | else-not-join_same w ↦ omega (arith, w.count-is, ap change w.if-not-join_same.false)
     ] in
     let joined : HaveResponders (members batch setting) c.if-not-join_same.joined = elim c.if-not-join_same.branch [
       | then-not-join_same w ↦ rw w.joined-is w.put_in-then-not-join_same.ensures
-      | else-not-join_same w ↦ rw w.joined-is (joined_same batch (get_or settings (k - 1) []) setting c.loop-k.joined (sym same ∙ w.if-not-join_same.false) c.loop-k.invariant.joined)
+      | else-not-join_same w ↦ rw w.joined-is (joined_same batch (get_or settings (k - 1) []) setting c.loop-k.joined (sym same ∙ w.if-not-join_same.false)
+          c.loop-k.invariant.joined)
     ] in
     let at = at_setting settings k setting here in
     rw at
     (record {
-      counted = counted_more batch settings k c.loop-k.count c.if-not-join_same.count setting c.join_same.result (omega arith) here same counts c.loop-k.invariant.counted;
-      few = elim c.if-not-join_same.branch [ then-not-join_same w ↦ omega (arith, c.loop-k.invariant.few, w.count-is) | else-not-join_same w ↦ omega (arith, c.loop-k.invariant.few, w.count-is) ];
+      counted = counted_more batch settings k c.loop-k.count c.if-not-join_same.count setting c.join_same.result (omega arith) here same counts
+          c.loop-k.invariant.counted;
+      few = elim c.if-not-join_same.branch [
+        | then-not-join_same w ↦ omega (arith, c.loop-k.invariant.few, w.count-is)
+        | else-not-join_same w ↦
+            omega (arith, c.loop-k.invariant.few, w.count-is)
+      ];
       before = refl;
       joined = joined;
     })

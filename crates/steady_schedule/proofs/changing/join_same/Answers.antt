@@ -9,7 +9,8 @@ returns-then-setting-before c =
     let batch = c.args.graph.now in
     let one = starts_of batch c.args.before.now c.requires.known_before c.requires.matching_before in
     let other = starts_of batch c.args.setting.now c.requires.known c.requires.matching in
-    same_from_within batch c.args.before.now c.args.setting.now c.args.joined.now c.stand_in.result one other c.requires.joined c.if-setting-before.true (c.stand_in.ensures (members batch c.args.before.now) c.requires.joined)
+    same_from_within batch c.args.before.now c.args.setting.now c.args.joined.now c.stand_in.result one other c.requires.joined c.if-setting-before.true
+    (c.stand_in.ensures (members batch c.args.before.now) c.requires.joined)
 
 pub returns-else-setting-before : goal.returns-else-setting-before
 returns-else-setting-before c =

@@ -17,7 +17,8 @@ loop-place-preserved c =
     let t_in = c.requires.known place 0 c.loop-place-test.true in
     let e = has_ends batch (get_or setting place 0) c.ends_of.result c.requires.batch t_in c.ends_of.ensures in
     rw (some_more batch setting place 0 e.x c.loop-place-test.true e.here)
-    (joined_more (members batch (take place setting)) e.x c.loop-place.joined c.ends_of.result.0.«module» c.ends_of.result.1.«module» c.loop-place.invariant e.start e.answer e.start_low (λ v. rw e.start (fresh_module batch setting place v e.x c.loop-place-test.true e.here c.requires.matching)))
+    (joined_more (members batch (take place setting)) e.x c.loop-place.joined c.ends_of.result.0.«module» c.ends_of.result.1.«module» c.loop-place.invariant
+    e.start e.answer e.start_low (λ v. rw e.start (fresh_module batch setting place v e.x c.loop-place-test.true e.here c.requires.matching)))
 
 pub returns : goal.returns
 returns c =

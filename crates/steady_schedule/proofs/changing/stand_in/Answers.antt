@@ -15,7 +15,8 @@ returns-then-ne c = λ others are.
     let place = c.loop-place.place in
     let t_in = c.requires.known place 0 c.loop-place-test.true in
     let e = has_ends batch (get_or setting place 0) c.ends_of.result c.requires.batch t_in c.ends_of.ensures in
-    let not_there : are_partners others e.x.initiator e.x.responder ≡ false = stands others c.args.joined.now e.x c.ends_of.result.0.«module» c.ends_of.result.1.«module» c.ne.result are e.start e.answer c.ne.ensures ∙ ap not c.if-ne.true in
+    let not_there : are_partners others e.x.initiator e.x.responder ≡ false = stands others c.args.joined.now e.x c.ends_of.result.0.«module»
+    c.ends_of.result.1.«module» c.ne.result are e.start e.answer c.ne.ensures ∙ ap not c.if-ne.true in
     sym (c.loop-place.invariant others are ∙ (within_less batch others setting place e.x c.loop-place-test.true e.here ∙ (rw not_there refl)))
 
 pub loop-place-preserved : goal.loop-place-preserved
@@ -25,7 +26,8 @@ loop-place-preserved c = λ others are.
     let place = c.loop-place.place in
     let t_in = c.requires.known place 0 c.loop-place-test.true in
     let e = has_ends batch (get_or setting place 0) c.ends_of.result c.requires.batch t_in c.ends_of.ensures in
-    let there : are_partners others e.x.initiator e.x.responder ≡ true = stands others c.args.joined.now e.x c.ends_of.result.0.«module» c.ends_of.result.1.«module» c.ne.result are e.start e.answer c.ne.ensures ∙ ap not c.if-ne.false in
+    let there : are_partners others e.x.initiator e.x.responder ≡ true = stands others c.args.joined.now e.x c.ends_of.result.0.«module»
+    c.ends_of.result.1.«module» c.ne.result are e.start e.answer c.ne.ensures ∙ ap not c.if-ne.false in
     c.loop-place.invariant others are ∙ (within_less batch others setting place e.x c.loop-place-test.true e.here ∙ (rw there refl))
 
 pub returns : goal.returns

@@ -17,8 +17,10 @@ loop-place-preserved c =
     let t_in = c.requires.known place 0 c.loop-place-test.true in
     let e = has_ends batch (get_or setting place 0) c.ends_of.result c.requires.batch t_in c.ends_of.ensures in
     let rest = members batch (drop (place + 1) setting) in
-    let so_far = rw (one_less batch setting place e.x c.loop-place-test.true e.here) at c.loop-place.invariant in
-    (joined_less rest e.x c.loop-place.joined c.ends_of.result.0.«module» so_far.0 e.start e.start_low (IsDistinct-head same_start e.x rest so_far.1), IsDistinct-tail same_start e.x rest so_far.1)
+    let so_far = rw (one_less batch setting place e.x c.loop-place-test.true e.here) at c.loop-place.invariant in (
+      joined_less rest e.x c.loop-place.joined c.ends_of.result.0.«module» so_far.0 e.start e.start_low (IsDistinct-head same_start e.x rest so_far.1),
+      IsDistinct-tail same_start e.x rest so_far.1,
+    )
 
 pub returns : goal.returns
 returns c = rw (drop_all c.loop-place.place c.args.setting.now (omega arith)) at c.loop-place.invariant.0

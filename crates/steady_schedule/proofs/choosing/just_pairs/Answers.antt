@@ -10,5 +10,6 @@ loop-module-init c = record { sized = omega arith; within = λ u v has. absurd (
 pub loop-module-preserved : goal.loop-module-preserved
 loop-module-preserved c = record {
   sized = length-set c.loop-module.pairs.near c.loop-module.module _ ∙ c.loop-module.invariant.sized;
-  within = within_more c.loop-module.pairs.near c.args.reach.now.zero.near c.loop-module.module _ (omega (arith, c.loop-module.invariant.sized)) c.loop-module.invariant.within;
+  within = within_more c.loop-module.pairs.near c.args.reach.now.zero.near c.loop-module.module _ (omega (arith, c.loop-module.invariant.sized))
+      c.loop-module.invariant.within;
 }

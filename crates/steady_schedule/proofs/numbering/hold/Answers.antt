@@ -16,7 +16,13 @@ pub hold_one-requires-clause-there : goal.hold_one-requires-clause-there
 hold_one-requires-clause-there c y now =
     let m = c.args.matching.now in
     let joined : partner m.zero c.loop-zero.zero ≡ Some y = sym (c.loop-zero.invariant.ahead c.loop-zero.zero (omega arith)) ∙ now in
-    omega (arith, c.requires.there c.loop-zero.zero y joined, untouched m.zero c.args.settings c.loop-zero.zero c.args.remaining.now.counts c.loop-zero.remaining.counts c.loop-zero.invariant.taken (omega (arith, c.loop-zero-test.true, c.requires.within)) y (partner_low m.zero m.three c.loop-zero.zero y m.matched joined))
+    omega (
+      arith,
+      c.requires.there c.loop-zero.zero y joined,
+      untouched m.zero c.args.settings c.loop-zero.zero c.args.remaining.now.counts
+          c.loop-zero.remaining.counts c.loop-zero.invariant.taken (omega (arith, c.loop-zero-test.true, c.requires.within)) y
+          (partner_low m.zero m.three c.loop-zero.zero y m.matched joined),
+    )
 
 pub hold_one-requires-clause-within : goal.hold_one-requires-clause-within
 hold_one-requires-clause-within c = record { sized = c.loop-zero.invariant.numbered.numbered.sized; within = c.loop-zero.invariant.numbered.numbered.within }
@@ -24,7 +30,8 @@ hold_one-requires-clause-within c = record { sized = c.loop-zero.invariant.numbe
 pub loop-zero-init : goal.loop-zero-init
 loop-zero-init c = record {
   taken = none_taken c.args.matching.now.zero c.args.settings c.args.remaining.now.counts c.args.remaining.now.told.places;
-  numbered = begun c.args.places.now.totals.now c.args.remaining.now.counts c.args.slots.now c.args.matching.now.zero c.args.first c.args.settings c.requires.numbered;
+  numbered = begun c.args.places.now.totals.now c.args.remaining.now.counts c.args.slots.now c.args.matching.now.zero c.args.first c.args.settings
+      c.requires.numbered;
   ahead = λ x le. refl;
   behind = λ x y lt. absurd (omega arith);
   kept = keep_all c.args.places.now.totals.now c.args.first c.args.remaining.now.counts c.args.slots.now;
@@ -46,7 +53,8 @@ loop-zero-preserved c =
     let after = c.hold_one.new.remaining.counts in
     let n_in : n < MAX_MODULES = omega (arith, c.loop-zero-test.true, c.requires.within) in
     let here = so_far.ahead n (omega arith) in
-    let ahead : (x : ℕ) → n + 1 ≤ x → partner now.zero x ≡ partner m.zero x = λ x le. c.hold_one.ensures.others x (λ e. omega (arith, e, le)) ∙ so_far.ahead x (omega (arith, le)) in
+    let ahead : (x : ℕ) → n + 1 ≤ x → partner now.zero x ≡ partner m.zero x = λ x le. c.hold_one.ensures.others x (λ e. omega (arith, e, le))
+    ∙ so_far.ahead x (omega (arith, le)) in
     let behind = after_now old.zero now.zero counts after n so_far.behind c.hold_one.ensures.others c.hold_one.ensures.rest in
     partner_cases (partner m.zero n) _
     (λ none.
@@ -66,9 +74,12 @@ loop-zero-preserved c =
     record {
       taken = rw h.taken (joined_taken m.zero k n start counts so_far.taken n_in y y_in joined);
       ahead = ahead;
-      behind = behind (λ x v ne was. ap (λ (xs : List ℕ). count_at xs x v) h.taken ∙ count_other counts n y (count_at counts n y - k) places n_in y_in x v (partner_low old.zero old.three x v old.matched was) (λ e _. ne (sym e)));
-      numbered = rw h.taken (joined_numbered totals counts slots c.hold_one.new.slots m.zero m.three first k n y m.matched joined so_far.numbered places there h.written);
-      kept = rw h.taken (keep_both totals first start c.args.slots.now counts slots _ c.hold_one.new.slots so_far.kept (joined_keeps totals counts slots c.hold_one.new.slots m.zero m.three first k n y m.matched joined so_far.numbered places there h.written));
+      behind = behind (λ x v ne was. ap (λ (xs : List ℕ). count_at xs x v) h.taken ∙ count_other counts n y (count_at counts n y - k) places n_in y_in x v
+          (partner_low old.zero old.three x v old.matched was) (λ e _. ne (sym e)));
+      numbered = rw h.taken (joined_numbered totals counts slots c.hold_one.new.slots m.zero m.three first k n y m.matched joined so_far.numbered places there
+          h.written);
+      kept = rw h.taken (keep_both totals first start c.args.slots.now counts slots _ c.hold_one.new.slots so_far.kept
+          (joined_keeps totals counts slots c.hold_one.new.slots m.zero m.three first k n y m.matched joined so_far.numbered places there h.written));
     })
 
 pub returns : goal.returns
@@ -83,12 +94,15 @@ returns c =
     let totals = c.args.places.now.totals.now in
     let next = c.args.first + c.args.settings in
     record {
-      taken = all_taken zero c.args.settings c.args.modules start counts c.requires.within c.requires.low (subst (λ (n : ℕ). AreTaken zero c.args.settings n start counts) all so_far.taken);
-      near = λ x y joined. near_from_counts counts remaining.zero.near remaining.zero.uses remaining.three.near remaining.three.uses remaining.told now.zero now.three now.matched x y joined
+      taken = all_taken zero c.args.settings c.args.modules start counts c.requires.within c.requires.low
+          (subst (λ (n : ℕ). AreTaken zero c.args.settings n start counts) all so_far.taken);
+      near = λ x y joined. near_from_counts counts remaining.zero.near remaining.zero.uses remaining.three.near remaining.three.uses remaining.told now.zero
+          now.three now.matched x y joined
           (elim (cases_lt x c.args.modules) [
             | inl lt ↦ so_far.behind x y (omega arith) joined
             | inr le ↦ absurd (omega (arith, c.requires.low x y (sym (so_far.ahead x (omega (arith, all, le))) ∙ joined), le))
           ]);
-      numbered = all_numbered totals counts c.loop-zero.slots zero c.args.first c.args.modules next c.requires.within c.requires.low (subst (λ (n : ℕ). AreNumberedFrom zero c.args.first n totals counts c.loop-zero.slots next) all so_far.numbered);
+      numbered = all_numbered totals counts c.loop-zero.slots zero c.args.first c.args.modules next c.requires.within c.requires.low
+          (subst (λ (n : ℕ). AreNumberedFrom zero c.args.first n totals counts c.loop-zero.slots next) all so_far.numbered);
       kept = so_far.kept;
     }

@@ -9,4 +9,5 @@ read_all-requires-clause-below c u v i u_in v_in lt =
     f.numbered.below u v i (record { zero_in = u_in; three_in = v_in; done = omega (arith, f.done u v u_in v_in); there = lt })
 
 pub returns : goal.returns
-returns c = numbered_settings c.args.graph.now c.args.places.now.totals.now c.fill_best.new.slots c.args.settings (lists_of c.in_ok-lists.lists.items) c.requires.batch c.requires.counted c.in_ok-lists.ensures c.fill_best.ensures
+returns c = numbered_settings c.args.graph.now c.args.places.now.totals.now c.fill_best.new.slots c.args.settings (lists_of c.in_ok-lists.lists.items)
+    c.requires.batch c.requires.counted c.in_ok-lists.ensures c.fill_best.ensures

@@ -9,7 +9,13 @@ pub of-places-requires : goal.of-places-requires
 of-places-requires c = counts_few c.args.graph.now c.add_all.new.self.counts MAX_TRANSFERS c.add_all.ensures c.requires.batch.few
 
 pub settings_by-requires-clause-most : goal.settings_by-requires-clause-most
-settings_by-requires-clause-most c = λ end m m_in. omega (arith, waiting_uses c.args.graph.now c.add_all.new.self.counts end m c.add_all.ensures (all_low c.args.graph.now c.requires.batch) m_in, c.requires.most (made end m))
+settings_by-requires-clause-most c =
+    λ end m m_in. omega (
+      arith,
+      waiting_uses c.args.graph.now c.add_all.new.self.counts end m c.add_all.ensures (all_low c.args.graph.now c.requires.batch)
+          m_in,
+      c.requires.most (made end m),
+    )
 
 pub settings_by-requires-clause-room : goal.settings_by-requires-clause-room
 settings_by-requires-clause-room c = omega (arith, c.of-places.result.placed.all, c.deref_mut.ensures.len, c.in_ok-slots.ensures.len)

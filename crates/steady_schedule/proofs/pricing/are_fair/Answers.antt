@@ -9,7 +9,14 @@ pub loop-k-preserved : goal.loop-k-preserved
 loop-k-preserved c = record {
   each = λ i some few. elim (cases_lt i c.loop-k.k) [
     | inl lt ↦ c.loop-k.invariant.each i some lt
-    | inr le ↦ omega (arith, few, le, c.sum_of_length.ensures, c.if-sum_of_length-gt-SCALE.false, ap (λ (j : ℕ). sum_below LINKS (λ m. price_at c.args.prices.now m j)) {x = i} {y = c.loop-k.k} (omega (arith, few, le)))
+    | inr le ↦ omega (
+      arith,
+      few,
+      le,
+      c.sum_of_length.ensures,
+      c.if-sum_of_length-gt-SCALE.false,
+      ap (λ (j : ℕ). sum_below LINKS (λ m. price_at c.args.prices.now m j)) {x = i} {y = c.loop-k.k} (omega (arith, few, le)),
+    )
   ];
 }
 

@@ -23,12 +23,15 @@ loop-module-preserved c =
     record {
       some = omega (arith, c.min.ensures, c.min-settings.ensures, c.zero_room.ensures.some, c.three_room.ensures.some, c.loop-module.invariant.some);
       few = omega (arith, old, c.loop-module.invariant.few);
-      each = below_more (CanHoldAt counts m.zero m.three c.args.most k) c.loop-module.module (λ x lt. held_less counts m.zero m.three c.args.most c.loop-module.settings k x old (c.loop-module.invariant.each x lt)) (record {
-        pair = λ y joined. omega (arith, zero, c.zero_room.ensures.pair y joined);
-        zero_out = λ none. omega (arith, zero, c.zero_room.ensures.out none);
-        three_out = λ none. omega (arith, three, c.three_room.ensures.out none);
-      });
-      tight = tighter counts m.zero m.three c.args.most c.loop-module.settings c.zero_room.result t k c.loop-module.module (omega (arith, c.loop-module-test.true, c.requires.within)) is c.loop-module.invariant.tight c.zero_room.ensures.pair c.zero_room.ensures.out c.three_room.ensures.pair c.three_room.ensures.out;
+      each = below_more (CanHoldAt counts m.zero m.three c.args.most k) c.loop-module.module
+          (λ x lt. held_less counts m.zero m.three c.args.most c.loop-module.settings k x old (c.loop-module.invariant.each x lt)) (record {
+            pair = λ y joined. omega (arith, zero, c.zero_room.ensures.pair y joined);
+            zero_out = λ none. omega (arith, zero, c.zero_room.ensures.out none);
+            three_out = λ none. omega (arith, three, c.three_room.ensures.out none);
+          });
+      tight = tighter counts m.zero m.three c.args.most c.loop-module.settings c.zero_room.result t k c.loop-module.module
+          (omega (arith, c.loop-module-test.true, c.requires.within)) is c.loop-module.invariant.tight c.zero_room.ensures.pair c.zero_room.ensures.out
+          c.three_room.ensures.pair c.three_room.ensures.out;
     }
 
 pub returns : goal.returns
@@ -41,7 +44,8 @@ returns c =
       few = so_far.few;
       each = λ x x_in. elim (cases_lt x c.args.modules) [
         | inl lt ↦ so_far.each x (omega arith)
-        | inr le ↦ none_held l.counts l.zero.near l.zero.uses l.three.near l.three.uses l.told m.zero m.three m.matched c.args.modules c.requires.none c.requires.near c.args.most c.loop-module.settings x so_far.few le x_in
+        | inr le ↦ none_held l.counts l.zero.near l.zero.uses l.three.near l.three.uses l.told m.zero m.three m.matched c.args.modules c.requires.none
+            c.requires.near c.args.most c.loop-module.settings x so_far.few le x_in
       ];
       tight = so_far.tight;
     }

@@ -6,7 +6,8 @@ pub longest_hold-requires-clause-near : goal.longest_hold-requires-clause-near
 longest_hold-requires-clause-near c x y joined =
     let l = c.args.remaining.now in
     let m = c.in-Some.made in
-    near_from_counts l.counts l.zero.near l.zero.uses l.three.near l.three.uses l.told m.zero m.three m.matched x y joined (omega (arith, c.in_ok-settings.ensures.0, c.in-Some.ensures.each x y joined))
+    near_from_counts l.counts l.zero.near l.zero.uses l.three.near l.three.uses l.told m.zero m.three m.matched x y joined
+    (omega (arith, c.in_ok-settings.ensures.0, c.in-Some.ensures.each x y joined))
 
 pub longest_hold-requires-clause-zero : goal.longest_hold-requires-clause-zero
 longest_hold-requires-clause-zero c x x_in full =
@@ -21,4 +22,5 @@ returns-in-Some-clause-low c =
     let l = c.args.remaining.now in
     let m = c.in-Some.made in
     joined_below l.counts l.zero.near l.zero.uses l.three.near l.three.uses l.told m.zero m.three m.matched c.args.modules c.requires.none (λ x y joined.
-    near_from_counts l.counts l.zero.near l.zero.uses l.three.near l.three.uses l.told m.zero m.three m.matched x y joined (omega (arith, c.in_ok-settings.ensures.0, c.in-Some.ensures.each x y joined)))
+    near_from_counts l.counts l.zero.near l.zero.uses l.three.near l.three.uses l.told m.zero m.three m.matched x y joined
+    (omega (arith, c.in_ok-settings.ensures.0, c.in-Some.ensures.each x y joined)))

@@ -25,13 +25,16 @@ loop-setting-preserved g c =
     let given = c.in_default.ensures in
     let numbers = c.numbers_of_setting-numbers.ensures.numbers in
     let pairs = c.of_setting-pairs.result in
-    let are : pairs ≡ pairs_at batch settings k = pairs_are batch settings k c.numbers_of_setting-numbers.result.now pairs numbers c.of_setting-pairs.ensures.members in
+    let are : pairs ≡ pairs_at batch settings k = pairs_are batch settings k c.numbers_of_setting-numbers.result.now pairs numbers
+    c.of_setting-pairs.ensures.members in
     let sliced : c.as_slice.result.now ≡ pairs_at batch settings k = c.as_slice.ensures.pairs ∙ are in
     record {
       count = invariant.count + 1;
       at = omega (arith, invariant.at);
-      stood = one_more g.S.DriveObserver.hears c.args.rack batch settings c.args.first invariant.count k _ _ c.args.stage.now (g.P.ConfigPort.passed c.loop-setting.port) c.loop-setting.stage _ _ invariant.at numbers invariant.stood
-          (stands_so c.args.rack batch settings c.args.first invariant.count k c.loop-setting.standing c.as_slice.result.now _ _ invariant.at invariant.known sliced given.stands) c.in_default-on_setting.ensures;
+      stood = one_more g.S.DriveObserver.hears c.args.rack batch settings c.args.first invariant.count k _ _ c.args.stage.now
+          (g.P.ConfigPort.passed c.loop-setting.port) c.loop-setting.stage _ _ invariant.at numbers invariant.stood
+          (stands_so c.args.rack batch settings c.args.first invariant.count k c.loop-setting.standing c.as_slice.result.now _ _ invariant.at invariant.known
+          sliced given.stands) c.in_default-on_setting.ensures;
       known = known_after batch settings c.args.first invariant.count k pairs invariant.at are;
       standing = (
         c.of_setting-pairs.ensures.pairs (wired_in c.args.rack) c.requires.modules,

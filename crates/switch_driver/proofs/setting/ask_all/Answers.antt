@@ -21,7 +21,8 @@ returns-in_err-judge-clause-vain g c =
     let differs = c.in_err-judge.ensures.differs in
     let asked = rw c.port_of-output.ensures at c.in_ok-came.ensures.passed in
     rw (p.1, p.2)
-    (disagreed_at _ c.args.chip c.args.wiring c.args.pairs.now _ n _ so_far.replies came _ _ c.wanted_switch-wanted.ensures c.port_of-output.ensures c.loop-number-test.true so_far.many differs.0 differs.1 so_far.agree
+    (disagreed_at _ c.args.chip c.args.wiring c.args.pairs.now _ n _ so_far.replies came _ _ c.wanted_switch-wanted.ensures c.port_of-output.ensures
+    c.loop-number-test.true so_far.many differs.0 differs.1 so_far.agree
     (passed_more c.args.chip n so_far.replies came _ _ _ so_far.many so_far.passed asked))
 
 pub loop-number-preserved : goal.loop-number-preserved

@@ -17,7 +17,9 @@ converse-requires g c = record {
 
 pub returns-clause-set : goal.returns-clause-set
 returns-clause-set g c =
-    ok_if c.converse.result (λ h did. (did (c.args.command ∷ []) (c.write-number.ensures.ports, tt) (c.write-number.ensures.bytes ∙ sym (append-nil (row c.args.command)))).0) c.converse.ensures.done
+    ok_if c.converse.result
+    (λ h did. (did (c.args.command ∷ []) (c.write-number.ensures.ports, tt) (c.write-number.ensures.bytes ∙ sym (append-nil (row c.args.command)))).0)
+    c.converse.ensures.done
 
 pub returns-clause-replied : goal.returns-clause-replied
 returns-clause-replied g c =
@@ -29,8 +31,10 @@ returns-clause-replied g c =
 
 pub returns-clause-passed : goal.returns-clause-passed
 returns-clause-passed g c =
-    on_ok_weaker c.converse.result (λ passed. passed (c.args.command ∷ []) (c.write-number.ensures.ports, tt) (c.write-number.ensures.bytes ∙ sym (append-nil (row c.args.command)))) c.converse.ensures.passed
+    on_ok_weaker c.converse.result (λ passed. passed (c.args.command ∷ []) (c.write-number.ensures.ports, tt)
+    (c.write-number.ensures.bytes ∙ sym (append-nil (row c.args.command)))) c.converse.ensures.passed
 
 pub returns-clause-broken : goal.returns-clause-broken
 returns-clause-broken g c =
-    on_err_weaker c.converse.result (λ broken. broken (c.args.command ∷ []) (c.write-number.ensures.ports, tt) (c.write-number.ensures.bytes ∙ sym (append-nil (row c.args.command)))) c.converse.ensures.broken
+    on_err_weaker c.converse.result (λ broken. broken (c.args.command ∷ []) (c.write-number.ensures.ports, tt)
+    (c.write-number.ensures.bytes ∙ sym (append-nil (row c.args.command)))) c.converse.ensures.broken

@@ -17,7 +17,8 @@ unreachable-requires g c =
     let i = c.loop-byte.byte-index in
     let bytes = c.args.bytes.now in
     let so_far = c.loop-byte.invariant in
-    let ok = c.feed.ensures.taken (take i bytes) (drop (i + 1) bytes) [] so_far.commands c.requires.commands so_far.spells (goes_on bytes i c.requires.commands [] c.loop-byte-test.true (spells_conversation bytes _ c.requires)) in
+    let ok = c.feed.ensures.taken (take i bytes) (drop (i + 1) bytes) [] so_far.commands c.requires.commands so_far.spells
+    (goes_on bytes i c.requires.commands [] c.loop-byte-test.true (spells_conversation bytes _ c.requires)) in
     search rules
 
 pub loop-byte-preserved-in_default-given : goal.loop-byte-preserved-in_default-given
@@ -34,7 +35,8 @@ returns-in_err-reply-clause-broken g c =
     let bytes = c.args.bytes.now in
     let so_far = c.loop-byte.invariant in
     let now = c.in-Ok.ensures.text (take i bytes) so_far.commands so_far.spells in
-    at_err c.from_residual.result (broke_within _ _ _ _ _ _ _ _ _ _ _ _ _ _ _ _ _ _ (split bytes i c.loop-byte-test.true) so_far (rw c.in-Some.is at now) c.in_err-reply.ensures.vain)
+    at_err c.from_residual.result (broke_within _ _ _ _ _ _ _ _ _ _ _ _ _ _ _ _ _ _ (split bytes i c.loop-byte-test.true) so_far (rw c.in-Some.is at now)
+    c.in_err-reply.ensures.vain)
 
 pub bounds-replies-heard : goal.bounds-replies-heard
 bounds-replies-heard g c =
@@ -43,7 +45,12 @@ bounds-replies-heard g c =
     let so_far = c.loop-byte.invariant in
     let now = c.in-Ok.ensures.text (take i bytes) so_far.commands so_far.spells in
     let asked = rw c.in-Some-2.is at c.in_ok-reply.ensures.asked in
-    omega (arith, fits _ _ _ c.in-Some.command _ _ _ _ _ _ _ _ _ _ _ _ _ (sym (split bytes i c.loop-byte-test.true)) so_far (rw c.in-Some.is at now) c.requires, asked.count, c.loop-byte.auto.replies)
+    omega (
+      arith,
+      fits _ _ _ c.in-Some.command _ _ _ _ _ _ _ _ _ _ _ _ _ (sym (split bytes i c.loop-byte-test.true)) so_far (rw c.in-Some.is at now) c.requires,
+      asked.count,
+      c.loop-byte.auto.replies,
+    )
 
 pub loop-byte-preserved : goal.loop-byte-preserved
 loop-byte-preserved g c =
@@ -56,8 +63,10 @@ loop-byte-preserved g c =
     rw (take_more bytes i c.loop-byte-test.true) (elim c.match-branch-2.branch [
       | in-Some-2 w ↦
           let lt : c.loop-byte.heard < length c.loop-byte.replies = omega (arith, room, (rw w.in-Some-2.is at asked).count, c.loop-byte.auto.replies) in
-          rw (w.replies-is, w.heard-is) (asked_more _ _ _ _ _ _ _ _ _ _ _ _ _ _ _ _ _ _ _ so_far (rw c.in-Some.is at now) (rw w.in-Some-2.is at asked) (search rules) (search rules) (take_more_set _ _ _ lt))
-      | in_default-2 w ↦ rw (w.replies-is, w.heard-is) (asked_more _ _ _ _ _ _ _ _ _ _ _ _ _ _ _ _ _ _ _ so_far (rw c.in-Some.is at now) asked (search rules) (search rules) (search rules))
+          rw (w.replies-is, w.heard-is) (asked_more _ _ _ _ _ _ _ _ _ _ _ _ _ _ _ _ _ _ _ so_far (rw c.in-Some.is at now) (rw w.in-Some-2.is at asked)
+          (search rules) (search rules) (take_more_set _ _ _ lt))
+      | in_default-2 w ↦ rw (w.replies-is, w.heard-is) (asked_more _ _ _ _ _ _ _ _ _ _ _ _ _ _ _ _ _ _ _ so_far (rw c.in-Some.is at now) asked (search rules)
+          (search rules) (search rules))
     ])
 
 pub returns-clause-whole : goal.returns-clause-whole

@@ -9,7 +9,8 @@ loop-byte-init g c = carried_none _ _ _ _
 
 pub loop-byte-preserved : goal.loop-byte-preserved
 loop-byte-preserved g c =
-    sent_more _ _ c.args.chip (take c.write-number.result c.write-number.new.out) c.loop-byte.byte-index _ _ _ _ _ _ _ c.loop-byte-test.true c.loop-byte.invariant c.in_default.ensures.went c.add.ensures
+    sent_more _ _ c.args.chip (take c.write-number.result c.write-number.new.out) c.loop-byte.byte-index _ _ _ _ _ _ _ c.loop-byte-test.true
+    c.loop-byte.invariant c.in_default.ensures.went c.add.ensures
 
 pub returns-in-Err-clause-cut : goal.returns-in-Err-clause-cut
 returns-in-Err-clause-cut g c =

@@ -21,5 +21,12 @@ returns c t =
     let front = take (length first - length p) first in
     let is : p ≡ own = ap (λ (xs : List ℕ). take (o + 1) xs) all_own ∙ take-map-range_with_len own_answer 0 PORTS (o + 1) (omega (arith, c.requires)) in
     let ends : first ≡ front ++ own = (ends_is Decides-eqb first p c.ends_with.result c.ends_with.ensures.value).0 t ∙ ap (λ (xs : List ℕ). front ++ xs) is in
-    let at : PORTS - 1 - o ≡ length front = omega (arith, c.requires, c.told-first, ap length ends, length-append front own, length-map-range_with_len own_answer 0 (o + 1)) in
+    let at : PORTS - 1 - o ≡ length front = omega (
+      arith,
+      c.requires,
+      c.told-first,
+      ap length ends,
+      length-append front own,
+      length-map-range_with_len own_answer 0 (o + 1),
+    ) in
     ap (drop (PORTS - 1 - o)) ends ∙ ap (λ (k : ℕ). drop k (front ++ own)) at ∙ drop-append_seam front own

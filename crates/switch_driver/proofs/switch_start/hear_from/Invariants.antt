@@ -9,5 +9,6 @@ abbrev pub invariant-loop-output : goal.invariant-loop-output
 invariant-loop-output g l = record {
   count : ℕ;
   at : l.first + count ≡ l.output;
-  carried : StreamCarries g.O.Write.contents g.I.Read.remaining l.initial.stream l.stream l.initial.came_up l.came_up (heard_from l.chip (map own_answer (range_with_len l.first count)));
+  carried : StreamCarries g.O.Write.contents g.I.Read.remaining l.initial.stream l.stream l.initial.came_up l.came_up
+      (heard_from l.chip (map own_answer (range_with_len l.first count)));
 }

@@ -7,13 +7,27 @@ pub put_pairs-cut-requires-clause-room : goal.put_pairs-cut-requires-clause-room
 put_pairs-cut-requires-clause-room c = omega (arith, c.requires.room, change_fits c.args.wiring c.args.old.now c.args.new.now c.requires.old c.requires.new)
 
 pub put_pairs-changed-requires-clause-room : goal.put_pairs-changed-requires-clause-room
-put_pairs-changed-requires-clause-room c = omega (arith, c.put_pairs-cut.ensures.number, c.requires.room, change_fits c.args.wiring c.args.old.now c.args.new.now c.requires.old c.requires.new)
+put_pairs-changed-requires-clause-room c =
+    omega (arith, c.put_pairs-cut.ensures.number, c.requires.room, change_fits c.args.wiring c.args.old.now c.args.new.now c.requires.old c.requires.new)
 
 pub put-requires : goal.put-requires
-put-requires c = omega (arith, c.put_pairs-cut.ensures.number, c.put_pairs-changed.ensures.number, c.requires.room, change_fits c.args.wiring c.args.old.now c.args.new.now c.requires.old c.requires.new)
+put-requires c = omega (
+  arith,
+  c.put_pairs-cut.ensures.number,
+  c.put_pairs-changed.ensures.number,
+  c.requires.room,
+  change_fits c.args.wiring c.args.old.now
+      c.args.new.now c.requires.old c.requires.new,
+)
 
 pub returns-clause-room : goal.returns-clause-room
-returns-clause-room c = omega (arith, c.put_pairs-cut.ensures.number, c.put_pairs-changed.ensures.number, c.put.ensures.number, change_fits c.args.wiring c.args.old.now c.args.new.now c.requires.old c.requires.new)
+returns-clause-room c = omega (
+  arith,
+  c.put_pairs-cut.ensures.number,
+  c.put_pairs-changed.ensures.number,
+  c.put.ensures.number,
+  change_fits c.args.wiring c.args.old.now c.args.new.now c.requires.old c.requires.new,
+)
 
 pub returns-clause-sets : goal.returns-clause-sets
 returns-clause-sets c =

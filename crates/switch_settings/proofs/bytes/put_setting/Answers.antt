@@ -7,10 +7,23 @@ pub put_pairs-joined-requires-clause-room : goal.put_pairs-joined-requires-claus
 put_pairs-joined-requires-clause-room c = omega (arith, c.put-begun.ensures.number, c.requires.room, joins_fit c.args.wiring c.args.pairs.now c.requires.pairs)
 
 pub put-requires : goal.put-requires
-put-requires c = omega (arith, c.put-begun.ensures.number, c.put_pairs-joined.ensures.number, c.requires.room, joins_fit c.args.wiring c.args.pairs.now c.requires.pairs)
+put-requires c = omega (
+  arith,
+  c.put-begun.ensures.number,
+  c.put_pairs-joined.ensures.number,
+  c.requires.room,
+  joins_fit c.args.wiring c.args.pairs.now
+      c.requires.pairs,
+)
 
 pub returns-clause-room : goal.returns-clause-room
-returns-clause-room c = omega (arith, c.put-begun.ensures.number, c.put_pairs-joined.ensures.number, c.put.ensures.number, joins_fit c.args.wiring c.args.pairs.now c.requires.pairs)
+returns-clause-room c = omega (
+  arith,
+  c.put-begun.ensures.number,
+  c.put_pairs-joined.ensures.number,
+  c.put.ensures.number,
+  joins_fit c.args.wiring c.args.pairs.now c.requires.pairs,
+)
 
 pub returns-clause-bytes : goal.returns-clause-bytes
 returns-clause-bytes c = setting_text c.args.wiring c.args.pairs.now _ _ _ c.put-begun.ensures.bytes c.put_pairs-joined.ensures.bytes c.put.ensures.bytes

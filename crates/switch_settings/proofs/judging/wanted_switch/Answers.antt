@@ -13,4 +13,5 @@ pub bytes_for-number-requires-clause-change_room : goal.bytes_for-number-require
 bytes_for-number-requires-clause-change_room c = change_bytes_fit c.args.wiring
 
 pub returns : goal.returns
-returns c = ap (switch_at A) (sent A _ c.new-wanted.result c.converse.new.self (switch_of c.args.wiring c.args.pairs.now) c.converse.new.replies (c.bytes_for-number.ensures.sets c.new-wanted.result.a tt) c.converse.ensures.done)
+returns c = ap (switch_at A) (sent A _ c.new-wanted.result c.converse.new.self (switch_of c.args.wiring c.args.pairs.now) c.converse.new.replies
+    (c.bytes_for-number.ensures.sets c.new-wanted.result.a tt) c.converse.ensures.done)

@@ -22,7 +22,8 @@ returns-clause-few c =
     let given = c.requires.schedule in
     let k = c.args.setting in
     let within = c.requires.within in
-    subst (λ (ts : List ℕ). length ts ≤ MAX_MODULES) same (matching_few batch (numbers_in c.args.schedule.now k) c.as_slice-batch.ensures.batch (given.no_other k [] within) (given.matchings k [] within))
+    subst (λ (ts : List ℕ). length ts ≤ MAX_MODULES) same (matching_few batch (numbers_in c.args.schedule.now k) c.as_slice-batch.ensures.batch
+    (given.no_other k [] within) (given.matchings k [] within))
 
 pub returns-clause-known : goal.returns-clause-known
 returns-clause-known c =

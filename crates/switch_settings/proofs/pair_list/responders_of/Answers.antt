@@ -11,7 +11,8 @@ loop-t-init c = record { size = refl; sound = λ i r e. absurd (table_none c.arg
 pub loop-t-preserved : goal.loop-t-preserved
 loop-t-preserved c =
     let t = get_or c.args.numbers.now c.loop-t.t-index 0 in
-    table_more c.args.batch.now c.args.numbers.now c.loop-t.t-index t c.loop-t.responders c.transfer_of-transfer.result c.requires.batch c.requires.known c.requires.matching c.loop-t-test.true refl (sym c.transfer_of-transfer.ensures) c.loop-t.invariant
+    table_more c.args.batch.now c.args.numbers.now c.loop-t.t-index t c.loop-t.responders c.transfer_of-transfer.result c.requires.batch c.requires.known
+    c.requires.matching c.loop-t-test.true refl (sym c.transfer_of-transfer.ensures) c.loop-t.invariant
 
 pub returns-clause-members : goal.returns-clause-members
 returns-clause-members c =

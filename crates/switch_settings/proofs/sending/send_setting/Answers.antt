@@ -31,11 +31,14 @@ returns-clause-passed g c =
     let new = g.P.ConfigPort.passed c.converse.new.self in
     let commands = turning c.args.wiring c.args.standing.now c.args.pairs.now in
     let none : c.converse.new.replies ≡ [] = no_items c.converse.new.replies (search rules) in
-    let ports = turning_commands c.args.wiring c.args.standing.now c.args.pairs.now (some_too _ _ c.args.standing.now (λ x p. p.0) c.requires.standing) c.requires.pairs in
-    on_ok_weaker c.converse.result (λ passed. subst (λ (replies : List ℕ). Passes old new (conversed c.args.chip commands replies)) none (passed commands ports c.bytes_for-number.ensures.bytes)) c.converse.ensures.passed
+    let ports = turning_commands c.args.wiring c.args.standing.now c.args.pairs.now (some_too _ _ c.args.standing.now (λ x p. p.0) c.requires.standing)
+    c.requires.pairs in
+    on_ok_weaker c.converse.result (λ passed. subst (λ (replies : List ℕ). Passes old new (conversed c.args.chip commands replies)) none
+    (passed commands ports c.bytes_for-number.ensures.bytes)) c.converse.ensures.passed
 
 pub returns-clause-broken : goal.returns-clause-broken
 returns-clause-broken g c =
     let commands = turning c.args.wiring c.args.standing.now c.args.pairs.now in
-    let ports = turning_commands c.args.wiring c.args.standing.now c.args.pairs.now (some_too _ _ c.args.standing.now (λ x p. p.0) c.requires.standing) c.requires.pairs in
+    let ports = turning_commands c.args.wiring c.args.standing.now c.args.pairs.now (some_too _ _ c.args.standing.now (λ x p. p.0) c.requires.standing)
+    c.requires.pairs in
     on_err_weaker c.converse.result (λ broken. broken commands ports c.bytes_for-number.ensures.bytes) c.converse.ensures.broken

@@ -10,7 +10,15 @@ pub returns-clause-replied : goal.returns-clause-replied
 returns-clause-replied g c =
     let heard = c.in_ok-replies.ensures in
     on_ok_weaker c.judge_all.result
-    (λ agrees. (_, c.in_ok-send_setting.ensures.passed, (_, record { replies = c.in_ok-replies.replies; all = heard.all; are = agrees; passed = heard.passed }, refl))) c.judge_all.ensures.agreed
+    (λ agrees. (
+      _,
+      c.in_ok-send_setting.ensures.passed,
+      (
+        _,
+        record { replies = c.in_ok-replies.replies; all = heard.all; are = agrees; passed = heard.passed },
+        refl,
+      ),
+    )) c.judge_all.ensures.agreed
 
 pub returns-clause-vain : goal.returns-clause-vain
 returns-clause-vain g c =

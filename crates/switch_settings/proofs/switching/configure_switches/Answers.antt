@@ -12,7 +12,8 @@ configure_one-requires-clause-pairs g c = more_pairs c.args.modules JOINED_MODUL
 pub configure_one-requires-clause-standing : goal.configure_one-requires-clause-standing
 configure_one-requires-clause-standing g c =
     let narrow : c.args.modules ≤ JOINED_MODULES = omega arith in
-    some_too _ _ c.args.standing.now (λ ps p. (more_pairs c.args.modules JOINED_MODULES ps narrow p.0, λ honest. (p.1 honest).narrow narrow)) c.requires.standing
+    some_too _ _ c.args.standing.now (λ ps p. (more_pairs c.args.modules JOINED_MODULES ps narrow p.0, λ honest. (p.1 honest).narrow narrow))
+    c.requires.standing
 
 pub configure_both-requires-clause-pairs : goal.configure_both-requires-clause-pairs
 configure_both-requires-clause-pairs g c = more_pairs c.args.modules PORTS c.args.pairs.now c.requires.few c.requires.pairs
@@ -20,7 +21,8 @@ configure_both-requires-clause-pairs g c = more_pairs c.args.modules PORTS c.arg
 pub configure_both-requires-clause-standing : goal.configure_both-requires-clause-standing
 configure_both-requires-clause-standing g c =
     let wide : JOINED_MODULES < c.args.modules = omega arith in
-    some_too _ _ c.args.standing.now (λ ps p. (more_pairs c.args.modules PORTS ps c.requires.few p.0, λ honest. ((p.1 honest).wide_a wide, (p.1 honest).wide_b wide))) c.requires.standing
+    some_too _ _ c.args.standing.now
+    (λ ps p. (more_pairs c.args.modules PORTS ps c.requires.few p.0, λ honest. ((p.1 honest).wide_a wide, (p.1 honest).wide_b wide))) c.requires.standing
 
 pub returns-clause-replied : goal.returns-clause-replied
 returns-clause-replied g c =

@@ -10,8 +10,10 @@ pub returns-then-from-t-clause-colour : goal.returns-then-from-t-clause-colour
 returns-then-from-t-clause-colour c =
     let s = c.self.inside in
     let in_row = c.place_at-place.ensures.below in
-    let read : c.index.result.now ≡ holder_at s.cells.items c.loop-colour.colour c.place_at-place.result = read_cell s.cells.items s.colours c.loop-colour.colour _ _ c.self.invariant.rows c.loop-colour-test.true in_row c.index.ensures in
-    let held : holder_at s.cells.items c.loop-colour.colour c.place_at-place.result ≡ Some c.args.t = sym read ∙ (c.in-Some.is ∙ ap Some (sym c.from.ensures ∙ c.if-from-t.true)) in
+    let read : c.index.result.now ≡ holder_at s.cells.items c.loop-colour.colour c.place_at-place.result =
+    read_cell s.cells.items s.colours c.loop-colour.colour _ _ c.self.invariant.rows c.loop-colour-test.true in_row c.index.ensures in
+    let held : holder_at s.cells.items c.loop-colour.colour c.place_at-place.result ≡ Some c.args.t = sym read
+    ∙ (c.in-Some.is ∙ ap Some (sym c.from.ensures ∙ c.if-from-t.true)) in
     rw (← c.self.view_is) (sym (c.self.invariant.back c.loop-colour.colour _ c.args.t in_row held).0)
 
 pub returns-then-from-t-clause-proper : goal.returns-then-from-t-clause-proper

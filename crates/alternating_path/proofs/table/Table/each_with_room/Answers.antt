@@ -14,16 +14,23 @@ pub put_in-requires-clause-in_range : goal.put_in-requires-clause-in_range
 put_in-requires-clause-in_range c = rw c.loop-colour.invariant.0.held.colours c.loop-colour-test.true
 
 pub put_in-requires-clause-out : goal.put_in-requires-clause-out
-put_in-requires-clause-out c = each_out c.args.graph.now c.args.members.now c.loop-colour.colour c.loop-colour.table c.requires.known c.requires.distinct c.loop-colour-test.true c.loop-colour.invariant.0
+put_in-requires-clause-out c = each_out c.args.graph.now c.args.members.now c.loop-colour.colour c.loop-colour.table c.requires.known c.requires.distinct
+    c.loop-colour-test.true c.loop-colour.invariant.0
 
 pub put_in-requires-clause-zero_free : goal.put_in-requires-clause-zero_free
-put_in-requires-clause-zero_free c = each_free c.args.graph.now c.args.members.now c.loop-colour.colour c.loop-colour.table c.requires.known c.requires.distinct c.loop-colour-test.true c.loop-colour.invariant.0 Zero
+put_in-requires-clause-zero_free c = each_free c.args.graph.now c.args.members.now c.loop-colour.colour c.loop-colour.table c.requires.known c.requires.distinct
+    c.loop-colour-test.true c.loop-colour.invariant.0 Zero
 
 pub put_in-requires-clause-three_free : goal.put_in-requires-clause-three_free
-put_in-requires-clause-three_free c = each_free c.args.graph.now c.args.members.now c.loop-colour.colour c.loop-colour.table c.requires.known c.requires.distinct c.loop-colour-test.true c.loop-colour.invariant.0 Three
+put_in-requires-clause-three_free c = each_free c.args.graph.now c.args.members.now c.loop-colour.colour c.loop-colour.table c.requires.known
+    c.requires.distinct c.loop-colour-test.true c.loop-colour.invariant.0 Three
 
 pub loop-colour-preserved : goal.loop-colour-preserved
-loop-colour-preserved c = (next_each c.args.graph.now c.args.members.now c.loop-colour.colour c.loop-colour.table c.requires.known c.requires.distinct c.loop-colour-test.true c.loop-colour.invariant.0 c.put_in.new.self c.put_in.ensures.written c.put_in.ensures.proper, omega (arith, c.loop-colour.invariant.1, c.tick.ensures))
+loop-colour-preserved c = (
+  next_each c.args.graph.now c.args.members.now c.loop-colour.colour c.loop-colour.table c.requires.known c.requires.distinct
+      c.loop-colour-test.true c.loop-colour.invariant.0 c.put_in.new.self c.put_in.ensures.written c.put_in.ensures.proper,
+  omega (arith, c.loop-colour.invariant.1, c.tick.ensures),
+)
 
 pub returns-clause-batch : goal.returns-clause-batch
 returns-clause-batch c = c.loop-colour.invariant.0.held.batch

@@ -9,5 +9,6 @@ invariant_of-result c = rw c.requires (show _ _ _ _ (empty_cells c.args.graph.no
 
 pub returns : goal.returns
 returns c =
-    let shown : shown_colours c.args.graph.now c.args.colours c.args.cells.items ≡ replicate (length c.args.graph.now) None = rw c.requires (shown-is _ _ _ _ (empty_cells c.args.graph.now c.args.colours c.len.ensures.batch)) in
+    let shown : shown_colours c.args.graph.now c.args.colours c.args.cells.items ≡ replicate (length c.args.graph.now) None =
+    rw c.requires (shown-is _ _ _ _ (empty_cells c.args.graph.now c.args.colours c.len.ensures.batch)) in
     ap (λ (f : _). let s : Colouring = record { batch = c.args.graph.now; colours = c.args.colours; colour = f; inserted = 0 } in s) shown

@@ -9,13 +9,33 @@ use Rattle.alternating_path.proofs.table.Table.insert_in_steps.Goals as goal
 
 pub returns-in_default-clause-no_room : goal.returns-in_default-clause-no_room
 returns-in_default-clause-no_room c =
-    let out : colour_at c.args.self.now.colour c.args.t ≡ None = none_from _ (ap is_some (sym c.colour_in_steps.ensures.colour) ∙ sym c.if-is_some.ensures) in
-    (λ _. (out, record { link = link_at c.args.self.now.batch c.args.t Zero; used = uses-link_at c.args.self.now.batch c.args.t Zero c.requires; full = c.in_default.ensures.none }), λ _. refl)
+    let out : colour_at c.args.self.now.colour c.args.t ≡ None = none_from _ (ap is_some (sym c.colour_in_steps.ensures.colour) ∙ sym c.if-is_some.ensures) in (
+      λ _. (
+        out,
+        record {
+          link = link_at c.args.self.now.batch c.args.t Zero;
+          used = uses-link_at c.args.self.now.batch c.args.t Zero c.requires;
+          full =
+              c.in_default.ensures.none;
+        },
+      ),
+      λ _. refl,
+    )
 
 pub returns-in_default-free_colour-clause-no_room : goal.returns-in_default-free_colour-clause-no_room
 returns-in_default-free_colour-clause-no_room c =
-    let out : colour_at c.args.self.now.colour c.args.t ≡ None = none_from _ (ap is_some (sym c.colour_in_steps.ensures.colour) ∙ sym c.if-is_some.ensures) in
-    (λ _. (out, record { link = link_at c.args.self.now.batch c.args.t Three; used = uses-link_at c.args.self.now.batch c.args.t Three c.requires; full = c.in_default-free_colour.ensures.none }), λ _. refl)
+    let out : colour_at c.args.self.now.colour c.args.t ≡ None = none_from _ (ap is_some (sym c.colour_in_steps.ensures.colour) ∙ sym c.if-is_some.ensures) in (
+      λ _. (
+        out,
+        record {
+          link = link_at c.args.self.now.batch c.args.t Three;
+          used = uses-link_at c.args.self.now.batch c.args.t Three c.requires;
+          full =
+              c.in_default-free_colour.ensures.none;
+        },
+      ),
+      λ _. refl,
+    )
 
 pub returns-clause-no_room : goal.returns-clause-no_room
 returns-clause-no_room c =

@@ -18,7 +18,8 @@ returns-clause-schedule c = λ (all : AllPlaced c.args.self).
     let proper : IsProper c.args.self.batch c.args.self.colours c.args.self.colour = rw (← c.self.view_is) (cells_proper _ _ _ _ c.self.invariant) in
     let colour : c.as_slice.result.now ≡ c.args.self.colour = c.as_slice.ensures.value ∙ c.in_ok-colour.ensures.list in
     let settings : c.of.result.settings ≡ lists_of c.in_ok-lists.lists.items = ap (λ (s : ColouredSettings). s.settings) c.of.ensures in
-    rw settings (is_schedule c.args.self.batch c.args.self.colours c.args.self.colour (lists_of c.in_ok-lists.lists.items) proper (rw colour at c.in_ok-lists.ensures.classes) (rw colour at c.in_ok-lists.ensures.once) all)
+    rw settings (is_schedule c.args.self.batch c.args.self.colours c.args.self.colour (lists_of c.in_ok-lists.lists.items) proper
+    (rw colour at c.in_ok-lists.ensures.classes) (rw colour at c.in_ok-lists.ensures.once) all)
 
 pub returns-clause-inserted : goal.returns-clause-inserted
 returns-clause-inserted c = search rules

@@ -8,13 +8,18 @@ pub invariant_of-self : goal.invariant_of-self
 invariant_of-self c =
     let s = c.self.inside in
     let r = rw (← c.self.view_is) at c.requires in
-    rw (c.place_at-zero.ensures.place, c.place_at-three.ensures.place) (show _ _ _ _ (cells_after_put s.graph.now s.colours _ s.cells.items c.args.t c.args.colour c.self.invariant r.known r.in_range r.out r.zero_free r.three_free))
+    rw (c.place_at-zero.ensures.place, c.place_at-three.ensures.place)
+    (show _ _ _ _ (cells_after_put s.graph.now s.colours _ s.cells.items c.args.t c.args.colour c.self.invariant r.known r.in_range r.out r.zero_free
+    r.three_free))
 
 pub returns-clause-proper : goal.returns-clause-proper
 returns-clause-proper c =
     let s = c.self.inside in
     let r = rw (← c.self.view_is) at c.requires in
-    rw (c.place_at-zero.ensures.place, c.place_at-three.ensures.place) (cells_proper _ _ _ _ (show _ _ _ _ (cells_after_put s.graph.now s.colours _ s.cells.items c.args.t c.args.colour c.self.invariant r.known r.in_range r.out r.zero_free r.three_free)))
+    rw (c.place_at-zero.ensures.place, c.place_at-three.ensures.place)
+    (cells_proper _ _ _ _
+    (show _ _ _ _ (cells_after_put s.graph.now s.colours _ s.cells.items c.args.t c.args.colour c.self.invariant r.known r.in_range r.out r.zero_free
+    r.three_free)))
 
 pub returns-clause-written : goal.returns-clause-written
 returns-clause-written c =
@@ -22,4 +27,5 @@ returns-clause-written c =
     let r = rw (← c.self.view_is) at c.requires in
     rw (← c.self.view_is, c.place_at-zero.ensures.place, c.place_at-three.ensures.place)
     (ap (λ (f : List (Option ℕ)). let v : Colouring = record { batch = s.graph.now; colours = s.colours; colour = f; inserted = s.inserted } in v)
-    (shown-is _ _ _ _ (cells_after_put s.graph.now s.colours (shown_colours s.graph.now s.colours s.cells.items) s.cells.items c.args.t c.args.colour c.self.invariant r.known r.in_range r.out r.zero_free r.three_free)))
+    (shown-is _ _ _ _ (cells_after_put s.graph.now s.colours (shown_colours s.graph.now s.colours s.cells.items) s.cells.items c.args.t c.args.colour
+    c.self.invariant r.known r.in_range r.out r.zero_free r.three_free)))

@@ -29,4 +29,10 @@ returns-clause-before c = rw (← c.self.view_is) (cells_proper _ _ _ _ c.self.i
 pub returns-clause-cost : goal.returns-clause-cost
 returns-clause-cost c =
     let s = c.self.inside in
-    rw (← c.self.view_is) (omega (arith, c.tick_many.ensures, c.len.ensures, ap length c.in_ok-extend_from_slice.ensures.items ∙ length-append s.cells.items _, c.self.invariant.rows))
+    rw (← c.self.view_is) (omega (
+      arith,
+      c.tick_many.ensures,
+      c.len.ensures,
+      ap length c.in_ok-extend_from_slice.ensures.items ∙ length-append s.cells.items _,
+      c.self.invariant.rows,
+    ))

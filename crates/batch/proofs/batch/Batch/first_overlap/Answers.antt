@@ -29,7 +29,8 @@ loop-i-preserved c =
             let more = first_more ts now.i (omega arith) w.in-Some.j p c.destination.ensures (subst (IsNextWriter ts now.i p) w.in-Some.is next) in
             subst (IsFirstFrom ts (now.i - 1)) (ap (λ (x : ℕ). Some (now.i - 1, x)) (sym w.from.ensures) ∙ sym w.first-is) more
         | in_default w ↦
-            let kept = first_alone ts now.i (omega arith) now.first p c.destination.ensures (subst (IsNextWriter ts now.i p) w.in_default.is next) now.invariant.first in
+            let kept = first_alone ts now.i (omega arith) now.first p c.destination.ensures (subst (IsNextWriter ts now.i p) w.in_default.is next)
+            now.invariant.first in
             subst (IsFirstFrom ts (now.i - 1)) (sym w.first-is) kept
       ];
     }

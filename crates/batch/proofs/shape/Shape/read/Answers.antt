@@ -5,7 +5,8 @@ use Rattle.batch.proofs.shape.Shape.read.Goals as goal
 
 pub returns-clause-bad : goal.returns-clause-bad
 returns-clause-bad c =
-    no_shape c.args.text.now (extent c.in-Some.modules c.in-Some.blocks c.in-Some.words) c.new.result c.in-Some.ensures.spelled (record { modules = c.in-Some.ensures.numbers.0; blocks = c.in-Some.ensures.numbers.1; words = c.in-Some.ensures.numbers.2 })
+    no_shape c.args.text.now (extent c.in-Some.modules c.in-Some.blocks c.in-Some.words) c.new.result c.in-Some.ensures.spelled
+    (record { modules = c.in-Some.ensures.numbers.0; blocks = c.in-Some.ensures.numbers.1; words = c.in-Some.ensures.numbers.2 })
     c.new.ensures.accepted
 
 pub returns-clause-shape : goal.returns-clause-shape

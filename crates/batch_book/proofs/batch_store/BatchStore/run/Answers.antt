@@ -11,24 +11,31 @@ use Rattle.batch_book.proofs.batch_store.BatchStore.run.Goals as goal
 
 pub returns-clause-step : goal.returns-clause-step
 returns-clause-step g c =
-    let own : batch_of c.args.self.now c.args.session c.args.id ≡ Some c.in-Some.found.now = rw (← c.self.view_is) (sym c.owned_by.ensures ∙ ap option_copied c.in-Some.is) in
-    let same : c.args.self.now.store ≡ c.in-Some-take.rack = rw (← c.self.view_is) (ap (λ r. unwrap_or r no_store) (sym c.take.ensures.value ∙ c.in-Some-take.is)) in
+    let own : batch_of c.args.self.now c.args.session c.args.id ≡ Some c.in-Some.found.now =
+    rw (← c.self.view_is) (sym c.owned_by.ensures ∙ ap option_copied c.in-Some.is) in
+    let same : c.args.self.now.store ≡ c.in-Some-take.rack =
+    rw (← c.self.view_is) (ap (λ r. unwrap_or r no_store) (sym c.take.ensures.value ∙ c.in-Some-take.is)) in
     let plan = c.in-Planned.planned in
     let batch : plan.batch ≡ c.batch-batch.result.now = sym c.batch-batch.ensures.batch in
     let settings : plan.settings ≡ c.schedule-schedule.result.now = sym c.schedule-schedule.ensures.schedule in
-    let refusals : AreRefusals c.args.self.now.store.shape plan.batch c.run-rack.result.1 = rw (same, batch) (record { overlap = c.run-rack.ensures.overlap; shape = c.run-rack.ensures.shape; free = c.run-rack.ensures.free }) in
+    let refusals : AreRefusals c.args.self.now.store.shape plan.batch c.run-rack.result.1 =
+    rw (same, batch) (record { overlap = c.run-rack.ensures.overlap; shape = c.run-rack.ensures.shape; free = c.run-rack.ensures.free }) in
     ran_step c.args.self.now c.args.session c.args.id c.in-Some.found.now c.in-Planned.planned c.end.result c.end.new.self own c.in-Planned.is
-    (ended c.args.self.now c.run-rack.result.0 c.args.id c.in-Planned.planned c.run-rack.result.1 c.end.result c.end.new.self refusals (rw (same, batch, settings) c.run-rack.ensures.memories) (rw (← c.self.view_is) c.end.ensures))
+    (ended c.args.self.now c.run-rack.result.0 c.args.id c.in-Planned.planned c.run-rack.result.1 c.end.result c.end.new.self refusals
+    (rw (same, batch, settings) c.run-rack.ensures.memories) (rw (← c.self.view_is) c.end.ensures))
 
 pub returns-in-Waiting-clause-step : goal.returns-in-Waiting-clause-step
 returns-in-Waiting-clause-step g c = search rules
 
 pub returns-clause-plant : goal.returns-clause-plant
 returns-clause-plant g c =
-    let own : batch_of c.args.self.now c.args.session c.args.id ≡ Some c.in-Some.found.now = rw (← c.self.view_is) (sym c.owned_by.ensures ∙ ap option_copied c.in-Some.is) in
-    let same : c.args.self.now.store ≡ c.in-Some-take.rack = rw (← c.self.view_is) (ap (λ r. unwrap_or r no_store) (sym c.take.ensures.value ∙ c.in-Some-take.is)) in
+    let own : batch_of c.args.self.now c.args.session c.args.id ≡ Some c.in-Some.found.now =
+    rw (← c.self.view_is) (sym c.owned_by.ensures ∙ ap option_copied c.in-Some.is) in
+    let same : c.args.self.now.store ≡ c.in-Some-take.rack =
+    rw (← c.self.view_is) (ap (λ r. unwrap_or r no_store) (sym c.take.ensures.value ∙ c.in-Some-take.is)) in
     let ran : plan_in (batch_of c.args.self.now c.args.session c.args.id) ≡ Some (c.batch-batch.result.now, c.schedule-schedule.result.now) =
-    ap plan_in own ∙ ap plan_at c.in-Planned.is ∙ ap₂ (λ (ts : List Transfer) (xs : List (List ℕ)). Some (ts, xs)) (sym c.batch-batch.ensures.batch) (sym c.schedule-schedule.ensures.schedule) in
+    ap plan_in own ∙ ap plan_at c.in-Planned.is ∙ ap₂ (λ (ts : List Transfer) (xs : List (List ℕ)). Some (ts, xs)) (sym c.batch-batch.ensures.batch)
+    (sym c.schedule-schedule.ensures.schedule) in
     let seen = g.P.ConfigPort in
     let sure = g.W.WireMaker.is_sure in
     let old = c.args.plant.now in
@@ -39,4 +46,5 @@ returns-clause-plant g c =
     (rw (← c.self.view_is) c.end.ensures) (rw ran (rw same c.run-rack.ensures.plant))
 
 pub returns-clause-told : goal.returns-clause-told
-returns-clause-told g c = as_told (λ o. TellsOutcome g.N.Notice.hears c.args.notice.now o c.run-rack.new.notice) (worded c.args.self.now c.run-rack.result.0) c.args.id c.run-rack.result.1 c.end.result c.end.new.self (λ why other same. same) (rw (← c.self.view_is) c.end.ensures) c.run-rack.ensures.told
+returns-clause-told g c = as_told (λ o. TellsOutcome g.N.Notice.hears c.args.notice.now o c.run-rack.new.notice) (worded c.args.self.now c.run-rack.result.0)
+    c.args.id c.run-rack.result.1 c.end.result c.end.new.self (λ why other same. same) (rw (← c.self.view_is) c.end.ensures) c.run-rack.ensures.told

@@ -30,7 +30,8 @@ returns-clause-asked g c =
     let t = c.args.place in
     let r = c.apply-made.result.0 in
     let e = c.apply-made.ensures in
-    asked t.access.watcher c.apply-made.result.1 c.args.session (was.pushed + 1) t.access.parts _ t.broken _ t.own.list c.note_made-own.result.own.list c.args.call r e.reaches e.quiet refl
+    asked t.access.watcher c.apply-made.result.1 c.args.session (was.pushed + 1) t.access.parts _ t.broken _ t.own.list c.note_made-own.result.own.list
+    c.args.call r e.reaches e.quiet refl
     (c.note_made-own.ensures.list ∙ ap (λ k. t.own.list ++ noted c.args.session (was.pushed + 1) k r) c.of-asked.ensures)
     c.is_broken-broken.ensures
 
@@ -65,7 +66,8 @@ invariant_of-result g c =
     let counted = ap length (ap made_in e.list ∙ made_append notes _) ∙ length-append (made_in notes) _ in
     record {
       counted = omega (arith, counted, e.amount, t.counted);
-      highest = raised_more g.L.ExchangeName.earlier t.own.session c.args.session (was.pushed + 1) _ notes _ c.of-asked.result.value r _ _ t.highest reaches.raised (e.session ∙ sym c.requires.session) e.list;
+      highest = raised_more g.L.ExchangeName.earlier t.own.session c.args.session (was.pushed + 1) _ notes _ c.of-asked.result.value r _ _ t.highest
+          reaches.raised (e.session ∙ sym c.requires.session) e.list;
       low = e.low;
       settled = λ never. absurd (true≢false never);
     }

@@ -46,10 +46,22 @@ invariant_of-self g c =
     let side = c.side-note.ensures ∙ (λ i. side_note BOOK_SIDE 0 (seen i) ((ap (λ s. s.value) c.of-2.ensures ∙ e.queued) i)) in
     let grown = c.add-its.ensures.history ∙ (λ i. first i ++ side i ∷ []) in
     let all = c.requires.grown ∙ ap (λ l. l ++ entry c.args.session c.args.call.value c.args.reply.now ∷ []) (ap (λ x. x.0) known) in
-    let k = called g.E.PendingEntries.texts earlier h _ c.args.session c.args.place c.args.call.value c.args.reply.now was.queued.value now c.args.book.now.history was.count _ was.front was.text.items _
-    record { placed = was.placed; known = was.known; first = was.first; many = was.many; taken = was.taken; waits = was.waits; stood = was.stood; told = was.told }
+    let k = called g.E.PendingEntries.texts earlier h _ c.args.session c.args.place c.args.call.value c.args.reply.now was.queued.value now
+    c.args.book.now.history was.count _ was.front was.text.items _
+    record {
+      placed = was.placed;
+      known = was.known;
+      first = was.first;
+      many = was.many;
+      taken = was.taken;
+      waits = was.waits;
+      stood = was.stood;
+      told =
+          was.told;
+    }
     grown all c.requires.place (subst (λ l. IsPrefix l now) queued e.more) (subst (IsPrefix now) e.history e.first) e.many
-    (e.text (taken_in earlier h) (subst (IsPrefix _) (sym queued) was.taken) (was.waits ∙ ap (λ l. g.E.PendingEntries.texts (taken_in earlier h) l) (sym queued))) in
+    (e.text (taken_in earlier h) (subst (IsPrefix _) (sym queued) was.taken)
+    (was.waits ∙ ap (λ l. g.E.PendingEntries.texts (taken_in earlier h) l) (sym queued))) in
     let more = ap length (two_made h _ m _ grown refl) ∙ length-append (made_in h) _ in
     record {
       counted = omega (arith, more, c.add.ensures.total, was.counted);
@@ -69,4 +81,5 @@ returns-clause-lists g c =
     let now = c.drain_into.new.book in
     let seen = ap (λ s. s.value) c.of-all.ensures ∙ c.past.ensures in
     let side = c.side-note.ensures ∙ (λ i. side_note BOOK_SIDE 0 (seen i) ((ap (λ s. s.value) c.of-2.ensures ∙ e.queued) i)) in
-    lists_now (g.L.ExchangeName.earlier, g.L.ExchangeName.earlier) _ _ (side_note BOOK_SIDE 0 now.history now.durable) (now.history, now.durable) (c.add-its.ensures.list ∙ ap (λ n. c.compare-its.result.list ++ n ∷ []) side) refl
+    lists_now (g.L.ExchangeName.earlier, g.L.ExchangeName.earlier) _ _ (side_note BOOK_SIDE 0 now.history now.durable) (now.history, now.durable)
+    (c.add-its.ensures.list ∙ ap (λ n. c.compare-its.result.list ++ n ∷ []) side) refl

@@ -10,8 +10,19 @@ invariant_of-self g c =
     let h = was.keeper.history in
     let grown = c.mark.ensures.history ∙ (λ i. (c.compare-own.ensures.same.0 i).history ++ mark c.args.session ∷ []) in
     let its = c.compare-own.ensures.list ∙ ap (λ s. notes_of s h) c.requires.session in
-    let k = marked g.E.PendingEntries.texts g.L.ExchangeName.earlier h _ c.args.place.own.list c.args.session c.args.place.last was.front was.queued.value was.count was.text.items
-    record { placed = was.placed; known = was.known; first = was.first; many = was.many; taken = was.taken; waits = was.waits; stood = was.stood; told = was.told }
+    let k = marked g.E.PendingEntries.texts g.L.ExchangeName.earlier h _ c.args.place.own.list c.args.session c.args.place.last was.front was.queued.value
+    was.count was.text.items
+    record {
+      placed = was.placed;
+      known = was.known;
+      first = was.first;
+      many = was.many;
+      taken = was.taken;
+      waits = was.waits;
+      stood = was.stood;
+      told =
+          was.told;
+    }
     grown its c.args.place.low c.requires.covered in
     record {
       counted = ap length (made_side h _ (mark c.args.session) grown refl) ∙ was.counted;

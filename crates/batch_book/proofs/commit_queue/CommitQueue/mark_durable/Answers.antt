@@ -17,7 +17,17 @@ invariant_of-self g c =
     let below = subst (λ k. k ≤ c.args.front) (ap (last_place 0) own ∙ was.stood) c.requires.below in
     let same = ap (λ l. (side_lists g.L.ExchangeName.earlier l).0) (sym own) ∙ c.requires.taken in
     let k = standing_to g.E.PendingEntries.texts g.L.ExchangeName.earlier h _ was.queued.value taken was.count was.front c.args.front was.text.items
-    record { placed = was.placed; known = was.known; first = was.first; many = was.many; taken = was.taken; waits = was.waits; stood = was.stood; told = was.told }
+    record {
+      placed = was.placed;
+      known = was.known;
+      first = was.first;
+      many = was.many;
+      taken = was.taken;
+      waits = was.waits;
+      stood = was.stood;
+      told =
+          was.told;
+    }
     grown same below in
     record {
       counted = ap length (made_side h _ n grown refl) ∙ was.counted;

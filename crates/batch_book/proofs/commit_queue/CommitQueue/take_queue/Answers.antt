@@ -16,7 +16,17 @@ invariant_of-self g c =
     let side = c.side-note.ensures ∙ ap (λ s. side_note RECORD_SIDE was.front s.value s.value) c.of-all.ensures in
     let grown = c.add-own.ensures.history ∙ (λ i. (c.compare-own.ensures.same.0 i).history ++ side i ∷ []) in
     let k = handed_over g.E.PendingEntries.texts g.L.ExchangeName.earlier h _ all was.count was.front was.text.items _
-    record { placed = was.placed; known = was.known; first = was.first; many = was.many; taken = was.taken; waits = was.waits; stood = was.stood; told = was.told }
+    record {
+      placed = was.placed;
+      known = was.known;
+      first = was.first;
+      many = was.many;
+      taken = was.taken;
+      waits = was.waits;
+      stood = was.stood;
+      told =
+          was.told;
+    }
     grown (ap (λ v. v.items) c.swap.ensures.x_after ∙ c.requires.spare ∙ sym (c.requires.none all)) in
     record {
       counted = ap length (made_side h _ n grown refl) ∙ was.counted;
@@ -35,7 +45,8 @@ returns-clause-first g c =
     let was = c.args.self.now in
     let h = was.keeper.history in
     let own = c.compare-own.ensures.list ∙ ap (λ s. notes_of s h) c.requires.side in
-    subst (λ l. IsPrefix (side_lists g.L.ExchangeName.earlier l).0 c.of-all.result.value.value) (sym own) (subst (IsPrefix _) (sym (ap (λ s. s.value) c.of-all.ensures)) was.taken)
+    subst (λ l. IsPrefix (side_lists g.L.ExchangeName.earlier l).0 c.of-all.result.value.value) (sym own)
+    (subst (IsPrefix _) (sym (ap (λ s. s.value) c.of-all.ensures)) was.taken)
 
 pub returns-clause-text : goal.returns-clause-text
 returns-clause-text g c =
@@ -54,7 +65,8 @@ returns-clause-taken g c =
     let all = was.queued.value in
     let side = c.side-note.ensures ∙ ap (λ s. side_note RECORD_SIDE was.front s.value s.value) c.of-all.ensures in
     let list = c.add-own.ensures.list ∙ ap (λ n. c.compare-own.result.list ++ n ∷ []) side in
-    ap (λ x. x.0) (lists_now (g.L.ExchangeName.earlier, g.L.ExchangeName.earlier) _ _ (side_note RECORD_SIDE was.front all all) (all, all) list refl) ∙ sym (ap (λ s. s.value) c.of-all.ensures)
+    ap (λ x. x.0) (lists_now (g.L.ExchangeName.earlier, g.L.ExchangeName.earlier) _ _ (side_note RECORD_SIDE was.front all all) (all, all) list refl)
+    ∙ sym (ap (λ s. s.value) c.of-all.ensures)
 
 pub returns-clause-place : goal.returns-clause-place
 returns-clause-place g c =

@@ -9,7 +9,8 @@ pub returns-clause-asked : goal.returns-clause-asked
 returns-clause-asked g c =
     let r = c.apply-made.result.0 in
     let e = c.apply-made.ensures in
-    asked c.args.place.access.watcher c.apply-made.result.1 c.args.session 0 c.args.place.access.parts _ c.args.place.broken _ c.args.place.own.list c.note_call-own.result.list c.args.call r e.reaches e.quiet refl
+    asked c.args.place.access.watcher c.apply-made.result.1 c.args.session 0 c.args.place.access.parts _ c.args.place.broken _ c.args.place.own.list
+    c.note_call-own.result.list c.args.call r e.reaches e.quiet refl
     (c.note_call-own.ensures.list ∙ ap (λ k. c.args.place.own.list ++ noted c.args.session 0 k r) c.of-asked.ensures)
     c.is_broken-broken.ensures
 
@@ -31,7 +32,8 @@ invariant_of-self g c =
     record {
       sure = old.sure;
       counted = omega (arith, counted, e.total, old.counted);
-      kept = kept_more g.L.ExchangeName.earlier notes old.book _ c.args.session 0 c.args.call r step old.kept ∙ ap (λ ns. g.L.ExchangeName.earlier ++ made_in ns) (sym history);
+      kept = kept_more g.L.ExchangeName.earlier notes old.book _ c.args.session 0 c.args.call r step old.kept
+          ∙ ap (λ ns. g.L.ExchangeName.earlier ++ made_in ns) (sym history);
       opened = c.apply-made.ensures.opening ∙ old.opened;
       unstopped = c.apply-made.ensures.unstopped old.unstopped;
     }
@@ -46,7 +48,8 @@ invariant_of-result g c =
     let counted = ap length (ap made_in e.list ∙ made_append notes _) ∙ length-append (made_in notes) _ in
     record {
       counted = omega (arith, counted, e.amount, t.counted);
-      highest = raised_more g.L.ExchangeName.earlier t.own.session c.args.session 0 _ notes _ c.of-asked.result.value r _ _ t.highest reaches.raised (e.session ∙ sym c.requires.session) e.list;
+      highest = raised_more g.L.ExchangeName.earlier t.own.session c.args.session 0 _ notes _ c.of-asked.result.value r _ _ t.highest reaches.raised
+          (e.session ∙ sym c.requires.session) e.list;
       low = ap (are_up_to t.last) e.list ∙ low_noted t.last notes c.args.session c.of-asked.result.value r t.low;
       settled = λ never. absurd (true≢false never);
     }

@@ -20,8 +20,10 @@ invariant_of-self c =
     let id = c.id_of-id.ensures ∙ ap id_of c.told.ensures in
     let told = ap (λ n. text ++ reply_text n e.reply) id ∙ drafted_text text e.session e.call e.reply drafted in
     let reply = reply_text c.id_of-id.result e.reply in
-    let whole = summed_text (length inside.past) inside.number inside.buffer.items reply inside.waits e.session e.call e.reply c.self.invariant.1 c.self.invariant.0.1 told in
-    let both = summed ∙ (λ i. put i ++ sum_line (sum_at inside.number (drop inside.waits (put i)))) ∙ append_assoc inside.buffer.items reply (sum_line (sum_at inside.number (drop inside.waits (inside.buffer.items ++ reply)))) in
+    let whole = summed_text (length inside.past) inside.number inside.buffer.items reply inside.waits e.session e.call e.reply c.self.invariant.1
+    c.self.invariant.0.1 told in
+    let both = summed ∙ (λ i. put i ++ sum_line (sum_at inside.number (drop inside.waits (put i)))) ∙ append_assoc inside.buffer.items reply
+    (sum_line (sum_at inside.number (drop inside.waits (inside.buffer.items ++ reply)))) in
     let long : c.len-self-inside.result ≡ length c.push_sum_of.new.text.items = search rules in (
       more_held _ _ (entry e.session e.call e.reply) _ _ _ _ _ _ c.self.invariant.0 c.add.ensures both whole long,
       next_number _ _ _ _ c.self.invariant.1 c.add.ensures,

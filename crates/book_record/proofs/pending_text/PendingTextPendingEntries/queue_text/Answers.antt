@@ -11,4 +11,5 @@ returns-clause-text c taken first text =
     let inside = c.self.inside in
     let now = rw (← c.self.view_is) at first in
     let was = rw (← c.self.view_is) at text in
-    rw (← c.self.view_is) (c.in_ok-move_text.ensures.all ∙ ap (λ l. l ++ c.truncate.new.self.items) was ∙ ap (λ l. text_behind taken inside.queued.value ++ l) (c.truncate.ensures.items ∙ c.self.invariant.0.0.1) ∙ after_both taken inside.queued.value inside.past now c.self.invariant.0.0.0)
+    rw (← c.self.view_is) (c.in_ok-move_text.ensures.all ∙ ap (λ l. l ++ c.truncate.new.self.items) was ∙ ap (λ l. text_behind taken inside.queued.value ++ l)
+    (c.truncate.ensures.items ∙ c.self.invariant.0.0.1) ∙ after_both taken inside.queued.value inside.past now c.self.invariant.0.0.0)

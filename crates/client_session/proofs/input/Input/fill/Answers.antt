@@ -13,14 +13,19 @@ returns-in-Ok-clause-takes g c =
     record {
       bytes = got;
       consumed = c.in-Ok.ensures.bytes.0;
-      kept = ap (λ h. h.pending ++ got) (sym c.self.view_is) ∙ sym (refilled s.start s.end (INPUT_BYTES - (s.end - s.start)) c.in-Ok.n s.buffer c.copy_within.new.self c.ask.new.buf c.copy_within.ensures.after (omega arith) (omega arith) c.in-Ok.ensures.bound.0);
+      kept = ap (λ h. h.pending ++ got) (sym c.self.view_is)
+          ∙ sym (refilled s.start s.end (INPUT_BYTES - (s.end - s.start)) c.in-Ok.n s.buffer c.copy_within.new.self c.ask.new.buf c.copy_within.ensures.after
+          (omega arith) (omega arith) c.in-Ok.ensures.bound.0);
       reads = omega (arith, length-take c.in-Ok.n c.ask.new.buf, c.in-Ok.ensures.bound.0, ap (λ h. h.reads) c.self.view_is);
     }
 
 pub returns-in-Err-clause-err : goal.returns-in-Err-clause-err
 returns-in-Err-clause-err g c =
-    let s = c.self.inside in
-    (unfilled s.start s.end (INPUT_BYTES - (s.end - s.start)) s.buffer c.copy_within.new.self c.ask.new.buf c.copy_within.ensures.after (omega arith) (omega arith) ∙ ap (λ h. h.pending) c.self.view_is, tt)
+    let s = c.self.inside in (
+      unfilled s.start s.end (INPUT_BYTES - (s.end - s.start)) s.buffer c.copy_within.new.self c.ask.new.buf c.copy_within.ensures.after (omega arith)
+          (omega arith) ∙ ap (λ h. h.pending) c.self.view_is,
+      tt,
+    )
 
 pub returns-in-Err-clause-takes : goal.returns-in-Err-clause-takes
 returns-in-Err-clause-takes g c = record {

@@ -22,7 +22,8 @@ pub returns-in_err-fill-clause-takes : goal.returns-in_err-fill-clause-takes
 returns-in_err-fill-clause-takes g c = TakesIn-more _ _ _ _ _ _ c.loop-n.invariant.0 c.in_err-fill.ensures.takes
 
 pub returns-then-branch-eq0-clause-line : goal.returns-then-branch-eq0-clause-line
-returns-then-branch-eq0-clause-line g c = found_at_end c.at_end.result (g.R.CountedRead.remaining c.fill.new.reader) c.fill.new.self (c.in_ok-fill.ensures.end c.if-branch-eq0.true) c.at_end.ensures.ok
+returns-then-branch-eq0-clause-line g c = found_at_end c.at_end.result (g.R.CountedRead.remaining c.fill.new.reader) c.fill.new.self
+    (c.in_ok-fill.ensures.end c.if-branch-eq0.true) c.at_end.ensures.ok
 
 pub returns-then-branch-eq0-clause-takes : goal.returns-then-branch-eq0-clause-takes
 returns-then-branch-eq0-clause-takes g c = TakesIn-more _ _ _ _ _ _ c.loop-n.invariant.0 c.in_ok-fill.ensures.takes
@@ -30,13 +31,15 @@ returns-then-branch-eq0-clause-takes g c = TakesIn-more _ _ _ _ _ _ c.loop-n.inv
 pub returns-then-branch-eq0-clause-err : goal.returns-then-branch-eq0-clause-err
 returns-then-branch-eq0-clause-err g c =
     let more = c.in_ok-fill.ensures in
-    let line = no_line _ (rw (none_of _ c.in_default-line_length.not-Some) at c.line_length.ensures.none) (omega (arith, ap length c.pending-in-loop-n.ensures.bytes)) in
+    let line = no_line _ (rw (none_of _ c.in_default-line_length.not-Some) at c.line_length.ensures.none)
+    (omega (arith, ap length c.pending-in-loop-n.ensures.bytes)) in
     cut_at_end c.at_end.result _ c.fill.new.self more.takes (omega arith) (more.end c.if-branch-eq0.true) line c.at_end.ensures.err
 
 pub returns-in_err-fill-clause-err : goal.returns-in_err-fill-clause-err
 returns-in_err-fill-clause-err g c =
     let p = err_from_is_err_and c.from_residual.result c.from_residual.ensures.1 in
-    let line = no_line _ (rw (none_of _ c.in_default-line_length.not-Some) at c.line_length.ensures.none) (omega (arith, ap length c.pending-in-loop-n.ensures.bytes)) in
+    let line = no_line _ (rw (none_of _ c.in_default-line_length.not-Some) at c.line_length.ensures.none)
+    (omega (arith, ap length c.pending-in-loop-n.ensures.bytes)) in
     rw (p.1, p.2) (fault_before _ _ c.loop-n.self c.fill.new.self line c.in_err-fill.ensures.err)
 
 pub returns-in_err-fill-clause-asks : goal.returns-in_err-fill-clause-asks

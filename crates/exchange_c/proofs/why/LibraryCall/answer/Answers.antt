@@ -11,7 +11,8 @@ returns-in-Check c =
 
 pub returns-in-Switch : goal.returns-in-Switch
 returns-in-Switch c =
-    rw c.in-Switch.is (answered_by c.answer_switch.result (λ source. IsSwitched source false None c.args.given.first.now) c.args.given.second.now c.source_of.result c.source_of.ensures c.answer_switch.ensures)
+    rw c.in-Switch.is (answered_by c.answer_switch.result (λ source. IsSwitched source false None c.args.given.first.now) c.args.given.second.now
+    c.source_of.result c.source_of.ensures c.answer_switch.ensures)
 
 pub returns-in-Apply : goal.returns-in-Apply
 returns-in-Apply c =
@@ -27,8 +28,10 @@ returns-in-Changes c =
 
 pub returns-in-SwitchWired : goal.returns-in-SwitchWired
 returns-in-SwitchWired c =
-    rw c.in-SwitchWired.is (switched_on c.answer_switch-in-SwitchWired.result c.args.given.third.now c.args.given.first.now c.args.given.second.now (said_by c.source_of-in-SwitchWired.result) c.source_of-in-SwitchWired.ensures c.answer_switch-in-SwitchWired.ensures)
+    rw c.in-SwitchWired.is (switched_on c.answer_switch-in-SwitchWired.result c.args.given.third.now c.args.given.first.now c.args.given.second.now
+    (said_by c.source_of-in-SwitchWired.result) c.source_of-in-SwitchWired.ensures c.answer_switch-in-SwitchWired.ensures)
 
 pub returns-in-Orders : goal.returns-in-Orders
 returns-in-Orders c =
-    rw c.in-Orders.is (answered_by c.answer_orders.result (λ source. IsOrdered source None c.args.given.first.now) c.args.given.second.now c.source_of-in-Orders.result c.source_of-in-Orders.ensures c.answer_orders.ensures)
+    rw c.in-Orders.is (answered_by c.answer_orders.result (λ source. IsOrdered source None c.args.given.first.now) c.args.given.second.now
+    c.source_of-in-Orders.result c.source_of-in-Orders.ensures c.answer_orders.ensures)

@@ -16,7 +16,8 @@ partial : (c : After-next_stage-stage) → IsPartial c.args.self.now
 partial c = rw (← c.self.view_is) (IsPartial-reading_of c.self.inside.stage c.self.invariant)
 
 pub returns-clause-text : goal.returns-clause-text
-returns-clause-text c = λ bits packets h. HasRead-more bits packets c.args.self.now c.args.bit c.next_stage-stage.result.1 (reading_of c.next_stage-stage.result.0) h (answers (goal.at.returns-clause-text c).After-next_stage-stage)
+returns-clause-text c = λ bits packets h. HasRead-more bits packets c.args.self.now c.args.bit c.next_stage-stage.result.1
+    (reading_of c.next_stage-stage.result.0) h (answers (goal.at.returns-clause-text c).After-next_stage-stage)
 
 pub returns-clause-step : goal.returns-clause-step
 returns-clause-step c = λ rest left given is.
@@ -24,7 +25,11 @@ returns-clause-step c = λ rest left given is.
     answer_is rest c.args.bit c.next_stage-stage.result.1 (reading_of c.next_stage-stage.result.0) left given (rw is at (partial f)) (rw is at (answers f))
 
 pub returns-clause-partial : goal.returns-clause-partial
-returns-clause-partial c = (partial (goal.at.returns-clause-partial c).After-next_stage-stage, IsPartial-reading_of c.next_stage-stage.result.0 c.next_stage-stage.ensures.stage)
+returns-clause-partial c = (
+  partial (goal.at.returns-clause-partial c).After-next_stage-stage,
+  IsPartial-reading_of c.next_stage-stage.result.0
+      c.next_stage-stage.ensures.stage,
+)
 
 pub returns-clause-only : goal.returns-clause-only
 returns-clause-only c = λ rest more left signs is p r e.
@@ -32,4 +37,5 @@ returns-clause-only c = λ rest more left signs is p r e.
     taken rest c.args.bit more left signs c.next_stage-stage.result.1 (reading_of c.next_stage-stage.result.0) (rw is at (answers f)) p r e
 
 pub returns-clause-fault : goal.returns-clause-fault
-returns-clause-fault c = fault_is c.args.self.now c.args.bit c.next_stage-stage.result.1 (reading_of c.next_stage-stage.result.0) (answers (goal.at.returns-clause-fault c).After-next_stage-stage)
+returns-clause-fault c = fault_is c.args.self.now c.args.bit c.next_stage-stage.result.1 (reading_of c.next_stage-stage.result.0)
+    (answers (goal.at.returns-clause-fault c).After-next_stage-stage)

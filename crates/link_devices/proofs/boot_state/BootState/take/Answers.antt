@@ -6,7 +6,8 @@ use Rattle.link_devices.proofs.Feeding.{same_taken, same_refused}
 use Rattle.link_devices.proofs.boot_state.BootState.take.Goals as goal
 
 -- a state to which nothing has come of a message
-empty : (s : BootState) (failed : ℕ) → IsBootState s → (failed ≡ 1) ⊎ (failed ≡ s.failed) → IsBootState (record { begun = s.begun; begun_count = 0; failed = failed })
+empty : (s : BootState) (failed : ℕ) → IsBootState s → (failed ≡ 1) ⊎ (failed ≡ s.failed)
+    → IsBootState (record { begun = s.begun; begun_count = 0; failed = failed })
 empty s failed h f = record {
   room = h.room;
   most = omega arith;
@@ -26,7 +27,8 @@ returns-in-Ok c =
     let left : BootState = record { begun = c.args.self.now.begun; begun_count = 0; failed = c.args.self.now.failed } in (
       c.in-Some.ensures.0,
       empty c.args.self.now c.args.self.now.failed c.in-Some.ensures.0 (inr refl),
-      same_taken (memory_read c.args.base) (memory_write c.args.base) c.in-Some.end (pending_of c.args.self.now) c.hand.new.end (pending_of left) c.args.memory.now c.hand.new.memory c.args.byte
+      same_taken (memory_read c.args.base) (memory_write c.args.base) c.in-Some.end (pending_of c.args.self.now) c.hand.new.end (pending_of left)
+          c.args.memory.now c.hand.new.memory c.args.byte
           (c.in-Some.ensures.1 ∙ sym alive) c.in-Some.ensures.2 c.in-Ok.reply (rest.0 ∙ sym alive) rest.1 c.in-Ok.ensures,
     )
 
@@ -36,6 +38,7 @@ returns c =
     let left : BootState = record { begun = c.args.self.now.begun; begun_count = 0; failed = 1 } in (
       c.in-Some.ensures.0,
       empty c.args.self.now 1 c.in-Some.ensures.0 (inl refl),
-      same_refused (memory_read c.args.base) (memory_write c.args.base) c.in-Some.end (pending_of c.args.self.now) c.hand.new.end (pending_of left) c.args.memory.now c.hand.new.memory c.args.byte
+      same_refused (memory_read c.args.base) (memory_write c.args.base) c.in-Some.end (pending_of c.args.self.now) c.hand.new.end (pending_of left)
+          c.args.memory.now c.hand.new.memory c.args.byte
           (c.in-Some.ensures.1 ∙ sym alive) c.in-Some.ensures.2 c.in-Err.fault refl c.in-Err.ensures,
     )

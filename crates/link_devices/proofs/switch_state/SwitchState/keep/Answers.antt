@@ -11,7 +11,8 @@ returns c =
     let was = c.requires.state in
     let count : length (take s.begun_count s.begun) ≡ s.begun_count = length-take-le s.begun_count s.begun (omega (arith, was.room, was.behind.most)) in
     let low : s.begun_count + 1 ≤ 2 = omega (arith, front_fits _ c.requires.partial, length-append (take s.begun_count s.begun) (c.args.byte ∷ [])) in
-    let begun : take (s.begun_count + 1) (set s.begun c.from.result c.args.byte) ≡ take s.begun_count s.begun ++ c.args.byte ∷ [] = rw c.from.ensures (take_more_set s.begun s.begun_count c.args.byte (omega (arith, was.room))) in
+    let begun : take (s.begun_count + 1) (set s.begun c.from.result c.args.byte) ≡ take s.begun_count s.begun ++ c.args.byte ∷ [] =
+    rw c.from.ensures (take_more_set s.begun s.begun_count c.args.byte (omega (arith, was.room))) in
     record {
       state = record {
         all_outputs = was.all_outputs;

@@ -4,7 +4,8 @@ use Rattle.link_devices.specs.declared.switch_state.SwitchState.{SwitchState}
 use Rattle.link_devices.specs.SwitchStates.{IsSwitchState, command_begun}
 use Rattle.link_devices.proofs.switch_state.SwitchState.reader.Goals as goal
 
-read : (s : SwitchState) (o : Option (List ℕ)) → (IsCommandFront (command_begun s) → IsSwitchState s) → MatchOption o (IsCommandFront (command_begun s) → ⊥) (λ r. IsCommandFront (command_begun s) × (r ≡ command_begun s)) → MatchOption o (IsSwitchState s → ⊥) (λ r. IsSwitchState s × (r ≡ command_begun s))
+read : (s : SwitchState) (o : Option (List ℕ)) → (IsCommandFront (command_begun s) → IsSwitchState s) → MatchOption o (IsCommandFront (command_begun s) → ⊥)
+    (λ r. IsCommandFront (command_begun s) × (r ≡ command_begun s)) → MatchOption o (IsSwitchState s → ⊥) (λ r. IsSwitchState s × (r ≡ command_begun s))
 read s None made m = λ h. m h.begun
 read s (Some r) made m = (made m.0, m.1)
 

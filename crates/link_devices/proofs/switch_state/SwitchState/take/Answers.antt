@@ -17,8 +17,10 @@ returns-in-Ok-Some c =
     let front = subst IsCommandFront (sym same) c.in-Some.ensures.0.begun in (
       c.in-Some.ensures.0,
       c.apply.ensures.state,
-      took (kept_end c.args.self.now) (kept_end c.apply.new.self) c.in-Some.reader c.feed.new.self c.args.byte c.in-Ok-Some.field-0 front same c.in-Ok-Some.ensures.text
-          (kept_end c.drop_partial.new.self) c.in-Ok-Some.command c.apply.result c.in-Ok-Some.field-0-is c.drop_partial.ensures.dropped c.apply.ensures.switch c.apply.ensures.answer,
+      took (kept_end c.args.self.now) (kept_end c.apply.new.self) c.in-Some.reader c.feed.new.self c.args.byte c.in-Ok-Some.field-0 front same
+          c.in-Ok-Some.ensures.text
+          (kept_end c.drop_partial.new.self) c.in-Ok-Some.command c.apply.result c.in-Ok-Some.field-0-is c.drop_partial.ensures.dropped c.apply.ensures.switch
+          c.apply.ensures.answer,
     )
 
 pub returns-in-Ok-None : goal.returns-in-Ok-None
@@ -27,6 +29,8 @@ returns-in-Ok-None c =
     let front = subst IsCommandFront (sym same) c.in-Some.ensures.0.begun in (
       c.in-Some.ensures.0,
       c.keep.ensures.state,
-      waited (kept_end c.args.self.now) (kept_end c.keep.new.self) c.in-Some.reader c.feed.new.self c.args.byte c.in-Ok-None.field-0 front same c.in-Ok-None.ensures.text
-          c.in-Ok-None.field-0-is (c.keep.ensures.kept ∙ ap (λ (t : List ℕ). record { switch = (kept_end c.args.self.now).switch; begun = t ++ c.args.byte ∷ [] }) (sym same)),
+      waited (kept_end c.args.self.now) (kept_end c.keep.new.self) c.in-Some.reader c.feed.new.self c.args.byte c.in-Ok-None.field-0 front same
+          c.in-Ok-None.ensures.text
+          c.in-Ok-None.field-0-is
+          (c.keep.ensures.kept ∙ ap (λ (t : List ℕ). record { switch = (kept_end c.args.self.now).switch; begun = t ++ c.args.byte ∷ [] }) (sym same)),
     )

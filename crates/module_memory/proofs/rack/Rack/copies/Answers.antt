@@ -20,7 +20,8 @@ loop-place-preserved c =
     let at : index ≡ place_index s.shape p = search rules in
     let there : c.index-block.result.now ≡ get_or s.blocks index c.index-block.result.now = search rules in
     let first : c.in_ok-copy.copy ≡ c.index-block.result.now = search rules in
-    let copy : c.in_ok-copy.copy ≡ block_of s p = first ∙ there ∙ get_or_default s.blocks index _ [] (omega (arith, at, whole.all_blocks, place_index_below s.shape p (c.requires i below))) ∙ ap (λ (x : ℕ). get_or s.blocks x []) at in
+    let copy : c.in_ok-copy.copy ≡ block_of s p = first ∙ there ∙ get_or_default s.blocks index _ []
+    (omega (arith, at, whole.all_blocks, place_index_below s.shape p (c.requires i below))) ∙ ap (λ (x : ℕ). get_or s.blocks x []) at in
     subst (λ (ws : List ℕ). AreCopiesUpTo s held (i + 1) (set now.copies.items index ws)) (sym copy)
     (copies_more s held i index now.copies.items whole p refl (c.requires i below) (λ k l. c.requires k (omega arith)) at now.invariant)
 

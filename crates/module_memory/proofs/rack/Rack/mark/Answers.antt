@@ -30,7 +30,8 @@ loop-index-preserved c =
     let i = c.loop-index.index in
     let block = c.index_mut-block.result.now in
     let below : i < length xs = omega arith in
-    let long : length block ≡ now.shape.words = ap (λ (x : List ℕ). length x) (get_or_read xs i block below c.index_mut-block.ensures.value []) ∙ inv.whole.all_words i below in
+    let long : length block ≡ now.shape.words = ap (λ (x : List ℕ). length x) (get_or_read xs i block below c.index_mut-block.ensures.value [])
+    ∙ inv.whole.all_words i below in
     let ws = c.count_from.new.self in
     let full = ap (λ (x : List ℕ). length x) c.count_from.ensures ∙ (length-range_with_len _ (length block) ∙ long) in
     record {
@@ -40,7 +41,8 @@ loop-index-preserved c =
       width = inv.width;
       whole = IsWhole-set (record { shape = now.shape; blocks = xs }) i ws inv.whole full;
       done = marked_more (λ (k : ℕ). range_with_len (mark_at c.args.self.now.shape.blocks k) c.args.self.now.shape.words) xs i ws below
-          (c.count_from.ensures ∙ ap₂ (λ (x y : ℕ). range_with_len x y) (ap (λ (b : ℕ). mark_at b i) inv.width) (long ∙ ap (λ (s : ShapeView). s.words) inv.shape))
+          (c.count_from.ensures ∙ ap₂ (λ (x y : ℕ). range_with_len x y) (ap (λ (b : ℕ). mark_at b i) inv.width)
+          (long ∙ ap (λ (s : ShapeView). s.words) inv.shape))
           inv.done;
     }
 

@@ -14,7 +14,8 @@ pub lend-requires : goal.lend-requires
 lend-requires c =
     let h : AreLendable c.args.self.shape c.args.places.now = search rules in
     let i = c.loop-place.place-index in
-    let same : c.loop-place.rest.store.shape ≡ c.args.self.shape = ap (λ (s : Store). s.shape) c.loop-place.invariant.rest ∙ shape-without c.args.self (take i c.args.places.now) in
+    let same : c.loop-place.rest.store.shape ≡ c.args.self.shape = ap (λ (s : Store). s.shape) c.loop-place.invariant.rest
+    ∙ shape-without c.args.self (take i c.args.places.now) in
     subst (λ (s : ShapeView). HasPlace s (place_in c.args.places.now i)) (sym same) (h.exist i (omega arith))
 
 abbrev bay_with : Place → List ℕ → BlockAt

@@ -2,7 +2,7 @@ use Rattle.std.proofs.Common.{◌≡◌, ◌++◌, List, length, take}
 use Rattle.batch.specs.declared.transfer.Transfer.{Transfer}
 use Rattle.module_memory.specs.Core.{setting_of}
 use Rattle.module_orders.specs.Flags.{AreChanged}
-use Rattle.module_orders.specs.declared.changed.TheConstants.{MAX_RACK_BLOCKS}
+use Rattle.batch.specs.declared.limits.TheConstants.{MAX_RACK_BLOCKS}
 use Rattle.module_orders.proofs.changed.ChangedBlocks.add.Given as goal
 
 abbrev pub invariant-loop-t : goal.invariant-loop-t

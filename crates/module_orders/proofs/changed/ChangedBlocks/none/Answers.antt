@@ -1,4 +1,4 @@
-use Rattle.module_orders.specs.declared.changed.TheConstants.{MAX_RACK_BLOCKS}
+use Rattle.batch.specs.declared.limits.TheConstants.{MAX_RACK_BLOCKS}
 use Rattle.module_orders.proofs.Changing.{none_changed}
 use Rattle.module_orders.proofs.changed.ChangedBlocks.none.Goals as goal
 

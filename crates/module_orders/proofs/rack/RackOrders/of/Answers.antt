@@ -25,8 +25,12 @@ loop-setting-preserved c =
     let k = c.loop-setting.setting in
     let numbers = c.numbers_of_setting-numbers.result.now in
     let flags = c.add.new.self.flags in
-    let changed : AreChanged (setting_of batch (concat (take (k + 1) settings))) flags = changed_next batch settings k numbers flags (omega (arith, c.settings-settings.ensures)) c.numbers_of_setting-numbers.ensures.numbers (c.add.ensures (setting_of batch (concat (take k settings))) c.loop-setting.invariant.changed) in
-    let told = setting_told batch settings k flags numbers c.loop-setting.modules.items c.push_orders.new.modules.items c.push_orders-in-loop-setting.new.modules.items c.len-batch.ensures.batch c.numbers_of_setting-numbers.ensures.known c.numbers_of_setting-numbers.ensures.numbers changed c.loop-setting.invariant.told c.in_ok-push_orders.ensures c.in_ok-push_orders-2.ensures in
+    let changed : AreChanged (setting_of batch (concat (take (k + 1) settings))) flags = changed_next batch settings k numbers flags
+    (omega (arith, c.settings-settings.ensures)) c.numbers_of_setting-numbers.ensures.numbers
+    (c.add.ensures (setting_of batch (concat (take k settings))) c.loop-setting.invariant.changed) in
+    let told = setting_told batch settings k flags numbers c.loop-setting.modules.items c.push_orders.new.modules.items
+    c.push_orders-in-loop-setting.new.modules.items c.len-batch.ensures.batch c.numbers_of_setting-numbers.ensures.known
+    c.numbers_of_setting-numbers.ensures.numbers changed c.loop-setting.invariant.told c.in_ok-push_orders.ensures c.in_ok-push_orders-2.ensures in
     record {
       all = ap (length {A = ModuleTold}) told ∙ length-all_modules (orders_before batch settings (k + 1));
       told = told;
@@ -38,4 +42,5 @@ returns c =
     let batch = c.args.batch.now in
     let settings = c.args.schedule.now in
     let done : c.loop-setting.setting ≡ c.settings-settings.result = omega arith in
-    told_all batch settings c.settings-settings.result c.loop-setting.modules.items c.settings-settings.ensures (c.loop-setting.invariant.told ∙ ap (λ (n : ℕ). all_modules (orders_before batch settings n)) done)
+    told_all batch settings c.settings-settings.result c.loop-setting.modules.items c.settings-settings.ensures
+    (c.loop-setting.invariant.told ∙ ap (λ (n : ℕ). all_modules (orders_before batch settings n)) done)

@@ -12,9 +12,15 @@ returns-in-Ok-clause-step g c =
     let bs = c.self.inside.bytes in
     let n = c.self.inside.len in
     let b = c.args.byte in
-    let whole : ((get_or (set bs n b) 0 0 ≡ POKE) × (c.if-self-eq-POKE.whole ≡ POKE_BYTES)) ⊎ ((get_or (set bs n b) 0 0 ≡ POKE → ⊥) × (c.if-self-eq-POKE.whole ≡ PEEK_BYTES)) =
-    elim c.if-self-eq-POKE.branch [ then-self-eq-POKE w ↦ inl (w.if-self-eq-POKE.true, w.whole-is) | else-self-eq-POKE w ↦ inr (w.if-self-eq-POKE.false, w.whole-is) ] in
-    let text = text_whole bs n b c.if-self-eq-POKE.whole c.message_in-message.result (search rules) (omega arith) c.self.invariant.0 (omega arith) whole c.message_in-message.ensures.poke c.message_in-message.ensures.peek in (
+    let whole : ((get_or (set bs n b) 0 0 ≡ POKE) × (c.if-self-eq-POKE.whole ≡ POKE_BYTES))
+    ⊎ ((get_or (set bs n b) 0 0 ≡ POKE → ⊥) × (c.if-self-eq-POKE.whole ≡ PEEK_BYTES)) =
+    elim c.if-self-eq-POKE.branch [
+      | then-self-eq-POKE w ↦ inl (w.if-self-eq-POKE.true, w.whole-is)
+      | else-self-eq-POKE w ↦
+          inr (w.if-self-eq-POKE.false, w.whole-is)
+    ] in
+    let text = text_whole bs n b c.if-self-eq-POKE.whole c.message_in-message.result (search rules) (omega arith) c.self.invariant.0 (omega arith) whole
+    c.message_in-message.ensures.poke c.message_in-message.ensures.peek in (
       ap (λ (p : Pending). p.failed) (sym c.self.view_is) ∙ c.if-self.false,
       c.if-self.false,
       inr (record {
@@ -31,14 +37,25 @@ returns-in-Err-clause-step g c =
     let bs = c.self.inside.bytes in
     let n = c.self.inside.len in
     let b = c.args.byte in
-    let whole : ((get_or (set bs n b) 0 0 ≡ POKE) × (c.if-self-eq-POKE.whole ≡ POKE_BYTES)) ⊎ ((get_or (set bs n b) 0 0 ≡ POKE → ⊥) × (c.if-self-eq-POKE.whole ≡ PEEK_BYTES)) =
-    elim c.if-self-eq-POKE.branch [ then-self-eq-POKE w ↦ inl (w.if-self-eq-POKE.true, w.whole-is) | else-self-eq-POKE w ↦ inr (w.if-self-eq-POKE.false, w.whole-is) ] in
-    let text = text_whole bs n b c.if-self-eq-POKE.whole c.message_in-message.result (search rules) (omega arith) c.self.invariant.0 (omega arith) whole c.message_in-message.ensures.poke c.message_in-message.ensures.peek in (
+    let whole : ((get_or (set bs n b) 0 0 ≡ POKE) × (c.if-self-eq-POKE.whole ≡ POKE_BYTES))
+    ⊎ ((get_or (set bs n b) 0 0 ≡ POKE → ⊥) × (c.if-self-eq-POKE.whole ≡ PEEK_BYTES)) =
+    elim c.if-self-eq-POKE.branch [
+      | then-self-eq-POKE w ↦ inl (w.if-self-eq-POKE.true, w.whole-is)
+      | else-self-eq-POKE w ↦
+          inr (w.if-self-eq-POKE.false, w.whole-is)
+    ] in
+    let text = text_whole bs n b c.if-self-eq-POKE.whole c.message_in-message.result (search rules) (omega arith) c.self.invariant.0 (omega arith) whole
+    c.message_in-message.ensures.poke c.message_in-message.ensures.peek in (
       refl,
       c.in-Err.ensures.1,
       subst (IsCause g.S.WordStore.read_gives g.S.WordStore.write_gives c.args.self.now c.args.store.now b) (sym c.from.ensures)
-          (cause_of g.S.WordStore.read_gives g.S.WordStore.write_gives c.args.self.now c.args.store.now b c.in-Err.fault (ap (λ (p : Pending). p.failed) (sym c.self.view_is) ∙ c.if-self.false)
-          (c.message_in-message.result, c.message_in-message.ensures.fits, ap (λ (p : Pending). p.bytes ++ b ∷ []) (sym c.self.view_is) ∙ text, c.in-Err.ensures.0)),
+          (cause_of g.S.WordStore.read_gives g.S.WordStore.write_gives c.args.self.now c.args.store.now b c.in-Err.fault
+          (ap (λ (p : Pending). p.failed) (sym c.self.view_is) ∙ c.if-self.false) (
+            c.message_in-message.result,
+            c.message_in-message.ensures.fits,
+            ap (λ (p : Pending). p.bytes ++ b ∷ []) (sym c.self.view_is) ∙ text,
+            c.in-Err.ensures.0,
+          )),
     )
 
 pub returns-then-self-clause-step : goal.returns-then-self-clause-step

@@ -14,4 +14,5 @@ returns-in_err-batch-clause-wrong c =
 pub returns-in_err-schedule-clause-wrong : goal.returns-in_err-schedule-clause-wrong
 returns-in_err-schedule-clause-wrong c =
     let p = err_from_is_err_and c.from_residual-in_err-schedule.result c.from_residual-in_err-schedule.ensures.1 in
-    rw (p.1, p.2) (schedule_at_fault c.args.shape c.args.batch.now c.args.schedule.now c.in_ok-batch.batch c.in_ok-batch.ensures.batch c.in_err-schedule.field-0.0 c.in_err-schedule.ensures.fault)
+    rw (p.1, p.2) (schedule_at_fault c.args.shape c.args.batch.now c.args.schedule.now c.in_ok-batch.batch c.in_ok-batch.ensures.batch
+    c.in_err-schedule.field-0.0 c.in_err-schedule.ensures.fault)

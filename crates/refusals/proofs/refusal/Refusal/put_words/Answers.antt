@@ -9,13 +9,16 @@ pub returns-in-CheckUnknown-clause-words : goal.returns-in-CheckUnknown-clause-w
 returns-in-CheckUnknown-clause-words c = c.put_numbered-in-CheckUnknown.ensures.text ∙ ap (λ r. c.args.line.now ++ refusal_words r) (sym c.in-CheckUnknown.is)
 
 pub returns-in-CheckRepeated-clause-words : goal.returns-in-CheckRepeated-clause-words
-returns-in-CheckRepeated-clause-words c = c.put_numbered-in-CheckRepeated.ensures.text ∙ ap (λ r. c.args.line.now ++ refusal_words r) (sym c.in-CheckRepeated.is)
+returns-in-CheckRepeated-clause-words c = c.put_numbered-in-CheckRepeated.ensures.text ∙ ap (λ r. c.args.line.now ++ refusal_words r)
+    (sym c.in-CheckRepeated.is)
 
 pub returns-in-CheckWrongLink-clause-words : goal.returns-in-CheckWrongLink-clause-words
-returns-in-CheckWrongLink-clause-words c = c.put_numbered-in-CheckWrongLink.ensures.text ∙ ap (λ r. c.args.line.now ++ refusal_words r) (sym c.in-CheckWrongLink.is)
+returns-in-CheckWrongLink-clause-words c = c.put_numbered-in-CheckWrongLink.ensures.text ∙ ap (λ r. c.args.line.now ++ refusal_words r)
+    (sym c.in-CheckWrongLink.is)
 
 pub returns-in-CheckCertificateRepeats-clause-words : goal.returns-in-CheckCertificateRepeats-clause-words
-returns-in-CheckCertificateRepeats-clause-words c = c.put_numbered-in-CheckCertificateRepeats.ensures.text ∙ ap (λ r. c.args.line.now ++ refusal_words r) (sym c.in-CheckCertificateRepeats.is)
+returns-in-CheckCertificateRepeats-clause-words c = c.put_numbered-in-CheckCertificateRepeats.ensures.text ∙ ap (λ r. c.args.line.now ++ refusal_words r)
+    (sym c.in-CheckCertificateRepeats.is)
 
 pub returns-in-HistoryFull-clause-words : goal.returns-in-HistoryFull-clause-words
 returns-in-HistoryFull-clause-words c = c.put-in-HistoryFull.ensures ∙ ap (λ r. c.args.line.now ++ refusal_words r) (sym c.in-HistoryFull.is)

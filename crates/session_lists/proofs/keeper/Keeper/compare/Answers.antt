@@ -3,16 +3,27 @@ use Rattle.session_lists.proofs.Moves.{takes, compares, gives}
 use Rattle.session_lists.proofs.keeper.Keeper.compare.Goals as goal
 
 pub join_seat-requires : goal.join_seat-requires
-join_seat-requires g c =
-    (search rules, search rules, search rules, search rules, takes g.E.SessionItem.session _ _ _ _ (ap (λ m. m.0.keeps) c.self.invariant.3) (ap (λ m. m.0.owns) c.own.invariant.1))
+join_seat-requires g c = (
+  search rules,
+  search rules,
+  search rules,
+  search rules,
+  takes g.E.SessionItem.session _ _ _ _ (ap (λ m. m.0.keeps) c.self.invariant.3)
+      (ap (λ m. m.0.owns) c.own.invariant.1),
+)
 
 pub load-requires : goal.load-requires
 load-requires g c = (
   search rules,
   search rules,
-  compares g.E.SessionItem.session _ _ _ c.self.inside.seat.me.0 c.own.inside.seat.me.0 _ c.join_seat.ensures.2 (ap (λ m. m.0.keeps) c.self.invariant.3) (ap (λ m. m.0.owns) c.own.invariant.1),
+  compares g.E.SessionItem.session _ _ _ c.self.inside.seat.me.0 c.own.inside.seat.me.0 _ c.join_seat.ensures.2 (ap (λ m. m.0.keeps) c.self.invariant.3)
+      (ap (λ m. m.0.owns) c.own.invariant.1),
 )
 
 pub split_seat-own-requires : goal.split_seat-own-requires
-split_seat-own-requires g c =
-    (search rules, search rules, gives g.E.SessionItem.session _ _ (ap (λ m. m.0.owns) c.load.ensures.2.0 ∙ (ap (λ m. m.0.owns) c.join_seat.ensures.2 ∙ ap (λ m. m.0.owns) c.own.invariant.1)))
+split_seat-own-requires g c = (
+  search rules,
+  search rules,
+  gives g.E.SessionItem.session _ _ (ap (λ m. m.0.owns) c.load.ensures.2.0
+      ∙ (ap (λ m. m.0.owns) c.join_seat.ensures.2 ∙ ap (λ m. m.0.owns) c.own.invariant.1)),
+)

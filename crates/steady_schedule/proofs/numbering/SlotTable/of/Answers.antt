@@ -15,7 +15,8 @@ loop-place-init c = record {
 pub loop-place-preserved : goal.loop-place-preserved
 loop-place-preserved c = record {
   sized = length-set c.loop-place.starts c.loop-place.place c.loop-place.room ∙ c.loop-place.invariant.sized;
-  starts = starts_more c.args.totals.now c.loop-place.starts c.loop-place.place c.loop-place.room (omega (arith, c.loop-place.invariant.sized)) c.loop-place.invariant.room c.loop-place.invariant.starts;
+  starts = starts_more c.args.totals.now c.loop-place.starts c.loop-place.place c.loop-place.room (omega (arith, c.loop-place.invariant.sized))
+      c.loop-place.invariant.room c.loop-place.invariant.starts;
   room = omega (arith, c.loop-place.invariant.room, sum_more c.loop-place.place (slice_index c.args.totals.now));
   few = omega (arith, c.loop-place.invariant.few, c.requires c.loop-place.place 0 (omega arith));
 }

@@ -8,4 +8,13 @@ pub overflow_add-result-2 : goal.overflow_add-result-2
 overflow_add-result-2 c =
     let s = c.args.self.now in
     let low : pair_index c.args.zero c.args.three < MAX_MODULES * MAX_MODULES = omega (arith, c.requires.zero_in, c.requires.three_in) in
-    record { fits = omega (arith, s.placed.at (pair_index c.args.zero c.args.three) low, slot_inside s.totals.now c.args.zero c.args.three c.args.i c.requires.zero_in c.requires.three_in c.requires.there, s.placed.all, s.placed.few) }
+    record {
+      fits = omega (
+        arith,
+        s.placed.at (pair_index c.args.zero c.args.three) low,
+        slot_inside s.totals.now c.args.zero c.args.three c.args.i
+            c.requires.zero_in c.requires.three_in c.requires.there,
+        s.placed.all,
+        s.placed.few,
+      );
+    }

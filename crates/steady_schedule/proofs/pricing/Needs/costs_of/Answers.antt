@@ -9,5 +9,11 @@ loop-three-preserved c =
     let cheap = c.cost_of.ensures.cheapest in
     record {
       low = omega (arith, before.low, c.cost_of.ensures.low);
-      cheapest = λ most costs. omega (arith, before.cheapest most costs, costs c.args.zero at c.cost_of.result c.requires.zero (omega arith) (λ lengths all is. cheap lengths all (omega (arith, is, c.number-number.ensures.number))), sum_more at (most c.args.zero));
+      cheapest = λ most costs. omega (
+        arith,
+        before.cheapest most costs,
+        costs c.args.zero at c.cost_of.result c.requires.zero (omega arith)
+            (λ lengths all is. cheap lengths all (omega (arith, is, c.number-number.ensures.number))),
+        sum_more at (most c.args.zero),
+      );
     }

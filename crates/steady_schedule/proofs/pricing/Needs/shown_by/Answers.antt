@@ -11,7 +11,12 @@ loop-zero-preserved c =
     let now = c.costs_of-total.ensures in
     record {
       low = omega (arith, before.low, now.low);
-      cheapest = λ most costs. omega (arith, before.cheapest most costs, now.cheapest most costs, sum_more c.loop-zero.zero (λ u. sum_below (MAX_MODULES + 1) (most u)));
+      cheapest = λ most costs. omega (
+        arith,
+        before.cheapest most costs,
+        now.cheapest most costs,
+        sum_more c.loop-zero.zero (λ u. sum_below (MAX_MODULES + 1) (most u)),
+      );
     }
 
 pub returns : goal.returns
@@ -24,5 +29,10 @@ returns c some =
       longest = needs.longest;
       fair = c.if-not-are_fair.ensures refl;
       dear = λ most costs. last_change c.loop-zero.total (sum_below (MAX_MODULES + 1) (λ u. sum_below (MAX_MODULES + 1) (most u))) some
-          (omega (arith, c.loop-zero.invariant.cheapest most costs, ap (λ (n : ℕ). sum_below n (λ u. sum_below (MAX_MODULES + 1) (most u))) {x = c.loop-zero.zero} {y = MAX_MODULES + 1} (omega arith)));
+          (omega (
+            arith,
+            c.loop-zero.invariant.cheapest most costs,
+            ap (λ (n : ℕ). sum_below n (λ u. sum_below (MAX_MODULES + 1) (most u)))
+                {x = c.loop-zero.zero} {y = MAX_MODULES + 1} (omega arith),
+          ));
     }

@@ -8,7 +8,12 @@ pub add-requires : goal.add-requires
 add-requires c =
     let t_in : c.loop-t.t < length c.args.graph.now = omega arith in
     let e = has_ends c.args.graph.now c.loop-t.t c.ends_of.result c.requires.batch t_in c.ends_of.ensures in
-    record { zero_in = e.start_low; three_in = e.answer_low; few = few_wait c.args.graph.now c.loop-t.self.counts c.loop-t.t c.requires.batch t_in c.loop-t.invariant }
+    record {
+      zero_in = e.start_low;
+      three_in = e.answer_low;
+      few = few_wait c.args.graph.now c.loop-t.self.counts c.loop-t.t c.requires.batch t_in
+          c.loop-t.invariant;
+    }
 
 pub loop-t-preserved : goal.loop-t-preserved
 loop-t-preserved c =
@@ -17,7 +22,8 @@ loop-t-preserved c =
     let t_in : c.loop-t.t < length c.args.graph.now = omega arith in
     let e = has_ends batch t c.ends_of.result c.requires.batch t_in c.ends_of.ensures in
     rw (one_more batch t e.x e.here, c.add.ensures)
-    (counted_more (take t batch) e.x c.loop-t.self.counts c.ends_of.result.0.«module» c.ends_of.result.1.«module» c.loop-t.invariant e.start e.answer e.start_low e.answer_low)
+    (counted_more (take t batch) e.x c.loop-t.self.counts c.ends_of.result.0.«module» c.ends_of.result.1.«module» c.loop-t.invariant e.start e.answer
+    e.start_low e.answer_low)
 
 pub returns : goal.returns
 returns c =

@@ -23,7 +23,8 @@ loop-initiator-preserved c =
     let i = c.loop-initiator.initiator in
     let table = c.responders_of-responders.result in
     let long : i < length table = omega arith in
-    let more = ap (table_pairs 0) (take_more table i None long) ∙ table_push 0 (take i table) (get_or table i None) i (omega (arith, length-take-le i table (omega arith))) in
+    let more = ap (table_pairs 0) (take_more table i None long) ∙ table_push 0 (take i table) (get_or table i None) i
+    (omega (arith, length-take-le i table (omega arith))) in
     record {
       room = omega (arith, c.put.ensures.count, c.loop-initiator.invariant.room);
       built = c.put.ensures.pairs ∙ ap (λ (x : List Pair). x ++ table_pairs i (get_or table i None ∷ [])) c.loop-initiator.invariant.built ∙ sym more;

@@ -12,7 +12,8 @@ use Rattle.board_wiring.specs.Missing.{HasWays, MissesNothing}
 use Rattle.board_wiring.specs.declared.board.Board.{Board}
 
 -- what is so of the batch that was read is so of each that the text denotes
-pub of_read : (board : Option Board) (its : Board) (text : List ℕ) (read : List Transfer) → board ≡ Some its → Denotes widest text read → HasWays (modules_of its) read → MissesNothing board text
+pub of_read : (board : Option Board) (its : Board) (text : List ℕ) (read : List Transfer) → board ≡ Some its → Denotes widest text read
+    → HasWays (modules_of its) read → MissesNothing board text
 of_read None its text read e is has batch denotes = tt
 of_read (Some board) its text read e is has batch denotes =
     let same : batch ≡ read = one_batch widest widest_shape text batch read denotes is in

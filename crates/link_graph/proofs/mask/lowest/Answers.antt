@@ -1,6 +1,6 @@
 use Rattle.std.proofs.Common.{refl, rules, w32}
 use Rattle.std.proofs.lemmas.Nat.Bits.{bit_at-trailing_zeros}
-use Rattle.steady_schedule.proofs.masks.lowest.Goals as goal
+use Rattle.link_graph.proofs.mask.lowest.Goals as goal
 
 pub returns : goal.returns
 returns c =
