@@ -10,10 +10,20 @@ came from there is added to it. Start the host first, at the top of a clone, and
     examples/all-reduce.py
 """
 
+import os
 import sys
 import time
 from concurrent.futures import ThreadPoolExecutor
 from pathlib import Path
+
+# Seconds that a number may take to come.
+LIMIT = 10
+
+
+def fail(module, why):
+    """Ends all clients, since others may wait for this one."""
+    os.write(2, f"all-reduce.py: module {module}: {why}\n".encode())
+    os._exit(1)
 
 
 def address(block, word):
@@ -28,7 +38,10 @@ def add_up(module):
 
         def ask(line):
             print(line, file=said, flush=True)
-            return told.readline().split()
+            reply = told.readline().split()
+            if not reply or reply[0] == "refused":
+                fail(module, " ".join(reply) or "the host has ended")
+            return reply
 
         total = module + 1
         ask(f"poke {module} {address(0, 1)} 00000001")
@@ -37,7 +50,10 @@ def add_up(module):
             batch = ask(f"batch 1\npush {module} 0 {module ^ 1 << stage} {stage + 1}")[1]
             ask(f"plan {batch}")
             ask(f"run {batch}")
+            end = time.monotonic() + LIMIT
             while ask(f"peek {module} {address(stage + 1, 1)}") != ["word", "00000001"]:
+                if time.monotonic() > end:
+                    fail(module, f"nothing has come in stage {stage}; is the rack 16x5x2?")
                 time.sleep(0.01)
             total += int(ask(f"peek {module} {address(stage + 1, 0)}")[1], 16)
     return total

@@ -10,7 +10,8 @@
 #     tools/release.sh --check
 #
 # makes two, with the verdict on the first crate alone, and uses one where it wasn't made: its sums,
-# README's first example, the emulator in C by pkg-config, and a call from Python.
+# README's first example, the emulator in C by pkg-config, and where CMake is there by that too, and
+# a call from Python.
 set -euo pipefail
 shopt -s inherit_errexit
 unset CDPATH
@@ -56,6 +57,21 @@ make() {
     echo "$1/$name.tar.gz"
 }
 
+# Builds a program in C by CMake, which finds the library by pkg-config, and runs it.
+by_cmake() {
+    mkdir -p "$work/cmake"
+    cat >"$work/cmake/CMakeLists.txt" <<END
+cmake_minimum_required(VERSION 3.10)
+project(program C)
+find_package(PkgConfig REQUIRED)
+pkg_check_modules(EXCHANGE REQUIRED IMPORTED_TARGET exchange)
+add_executable(program $(realpath "$1"))
+target_link_libraries(program PkgConfig::EXCHANGE)
+END
+    cmake -S "$work/cmake" -B "$work/cmake/built" >&2 && cmake --build "$work/cmake/built" >&2 &&
+        "$work/cmake/built/program"
+}
+
 # Uses an archive that was unpacked into this folder.
 use() {
     cd "$1"/*/share/doc/exchange
@@ -84,6 +100,8 @@ use() {
     [ -s "$work/shown" ] || fail 1 "WRONG: README has no example"
     cc -o "$work/emulator" examples/emulator/emulator.c $(pkg-config --cflags --libs exchange)
     "$work/emulator" | cmp - examples/emulator/printed.txt || fail 1 "WRONG: the emulator in C"
+    ! command -v cmake >/dev/null || by_cmake examples/emulator/emulator.c |
+        cmp - examples/emulator/printed.txt || fail 1 "WRONG: the emulator in C, by CMake"
     python3 -c 'import exchange, sys; print(exchange.plan(sys.stdin.read()), end="")' \
         <examples/three-transfers.txt |
         cmp - <(exchange plan examples/three-transfers.txt) || fail 1 "WRONG: a call from Python"

@@ -81,13 +81,13 @@ greatest_growth=5
 # five, so it may cost more than a plan: of transfers at random, and of modules that send each other
 # one block
 declare -A greatest_steady=(
-    [scrambled]=1.25 [scrambled-1024]=2.06 [one_link]=1.05 [one_link-1024]=1.07 [odd]=0.54
+    [scrambled]=1.28 [scrambled-1024]=2.11 [one_link]=1.05 [one_link-1024]=1.07 [odd]=0.54
     [star]=1.06 [two_by_two]=0.52 [part]=1.05
-    [wide]=1.79 [three_by_three]=0.35 [four_by_two]=0.43 [sixteen_by_three]=0.74
+    [wide]=2.27 [three_by_three]=0.35 [four_by_two]=0.43 [sixteen_by_three]=0.74
     [thirty_two_by_two]=0.45 [all_to_all]=0.56
-    [in_rounds]=0.54 [halo]=0.85 [random_16]=1.24 [random_32]=1.80 [random_256]=1.85
-    [sixty_pairs]=1.12 [gather]=1.06 [butterfly]=0.66
-    [permutations]=0.72 [once_each]=1.06 [random_512]=2.06 [ten_modules]=0.81 [random_800]=2.13
+    [in_rounds]=0.54 [halo]=0.85 [random_16]=1.26 [random_32]=2.34 [random_256]=1.93
+    [sixty_pairs]=1.16 [gather]=1.06 [butterfly]=0.66
+    [permutations]=0.72 [once_each]=2.29 [random_512]=2.44 [ten_modules]=0.81 [random_800]=2.82
     [seven_steps]=0.83 [seven_others]=0.81
 )
 greatest_steady_growth=4

@@ -35,12 +35,15 @@ echo '{ global: exchange_*; local: *; };' >"$work/names"
 cc -shared -o "$work/$shared" -Wl,-soname,"$shared" -Wl,-z,defs -Wl,--version-script="$work/names" \
     -Wl,--whole-archive "$work/libexchange.a" -Wl,--no-whole-archive
 put 644 "$work/libexchange.a" lib/libexchange.a
+mkdir "$all/lib/exchange"
+ln -s ../libexchange.a "$all/lib/exchange/libexchange.a"
 put 755 "$work/$shared" "lib/$shared"
 ln -s "$shared" "$all/lib/libexchange.so"
 put 644 "$top/include/exchange.h" include/exchange.h
 put 644 "$top/python/exchange.py" "lib/$modules/exchange.py"
 
-# pkg-config names the static library, so that a program runs wherever the shared one isn't found.
+# pkg-config names a folder with the static library alone, so that a program runs wherever the
+# shared one isn't found. (CMake finds no library by `-l:libexchange.a`.)
 cat >"$work/exchange.pc" <<END_OF_TEXT
 prefix=\${pcfiledir}/../..
 
@@ -48,7 +51,7 @@ Name: exchange
 Description: Plans block transfers between transputer modules, and moves the blocks
 Version: $version
 Cflags: -I\${prefix}/include
-Libs: -L\${prefix}/lib -l:libexchange.a
+Libs: -L\${prefix}/lib/exchange -lexchange
 END_OF_TEXT
 put 644 "$work/exchange.pc" lib/pkgconfig/exchange.pc
 

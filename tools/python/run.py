@@ -274,10 +274,17 @@ def try_versions(rack):
     major = re.findall(
         r"\(SONAME\).*\[(.*)\]", run("readelf", "-d", f"{rack}/lib/libexchange.so")[1]
     )
-    links = [os.readlink(path) for path in Path(rack).rglob("*") if path.is_symlink()]
+    shared = f"libexchange.so.{version.partition('.')[0]}"
+    links = {
+        str(path.relative_to(rack)): os.readlink(path)
+        for path in Path(rack).rglob("*")
+        if path.is_symlink()
+    }
     expect(
-        "the shared library has its first number, and a link leads to it",
-        major == links == [f"libexchange.so.{version.partition('.')[0]}"],
+        "the shared library has its first number, and links lead to both libraries",
+        major == [shared]
+        and links
+        == {"lib/libexchange.so": shared, "lib/exchange/libexchange.a": "../libexchange.a"},
         (major, links),
     )
 

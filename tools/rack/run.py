@@ -950,7 +950,7 @@ def waits(room):
 
 
 def ends_modules(room):
-    """Notes whether the modules end where a host can't write the words that they have in the end."""
+    """Notes whether the modules end where a host can't write the words that they have then."""
     room.write(*CASES[0][1:])
     room.pipes("cable")
     run, host_run = room.rack("--cable", "cable"), room.host("--image-out", "/dev/full")
