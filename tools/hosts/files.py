@@ -318,34 +318,35 @@ def is_cut_without_threads():
 
 
 def is_moved_before_the_lock():
-    """A file that another takes the place of between its opening and its lock isn't written, and a
-    new file that is moved then isn't used."""
+    """A file that another takes the place of between its opening and its lock isn't written. That
+    of a live record is opened again; another is refused, and a new file isn't used."""
     write("amy.in")
     for name in "record", "other":
         write(name)
-    told = "exchange: record: another program writes it\n"
-    yield ended_so("host 1x1x1 amy --record record", CALLS_MOVES="other:record"), (
-        "refused file\n",
-        told,
-        1,
-    )
+    for names in "other:record", "record:gone":
+        yield ended_so("host 1x1x1 amy --record record", CALLS_MOVES=names), (
+            "session 0 amy\n",
+            "",
+            0,
+        )
+        yield os.path.getsize("record") > 0, True
+        write("record")
     yield ended_so("serve 1x1x1 amy.in --record record", CALLS_MOVES="record:moved"), (
         "refused file\n",
-        told,
+        "exchange: record: another program writes it\n",
         1,
     )
-    yield sorted(os.listdir(".")), ["amy.in", "moved"]
     yield ended_so("serve 1x1x1 amy.in --image-out left", CALLS_MOVES="left.exchange-0:taken"), (
         "session 0\n",
         "",
         0,
     )
-    yield [os.path.getsize(name) for name in ("moved", "taken", "left")], [0, 0, 4]
-    yield sorted(os.listdir(".")), ["amy.in", "left", "moved", "taken"]
+    yield [os.path.getsize(name) for name in ("gone", "moved", "taken", "left")], [0, 0, 0, 4]
+    yield sorted(os.listdir(".")), ["amy.in", "amy.out", "gone", "left", "moved", "taken"]
 
 
 def new_files_of_others():
-    """A new file is none that another program is about to write, no pipe, and no link,
+    """A new file is none that is there, empty or locked, no pipe, and no link,
     whatever that leads to."""
     write("amy.in", "poke 0 80000800 000000ff\npeek 0 80000800\n")
     write("nothing")
@@ -380,6 +381,7 @@ def new_files_of_others():
         ("refused file\n", "exchange: left: no new file can be made in its folder\n", 1),
     )
     # One to which another program writes before it is locked is that program's.
+    os.unlink("left.exchange-0")
     written = beside("lock:left.exchange-0:1", "echo theirs >left.exchange-0")
     yield ended_so("serve 1x1x1 amy.in --image-out left", **written)[2], 0
     yield [os.path.getsize(name) for name in ("left", "left.exchange-0")], [4, 7]
@@ -434,6 +436,30 @@ def record_that_fails():
     yield ended_so(
         f"{host} --sync", **fails((f"sync:{os.path.basename(os.getcwd())}:1", errno.EINVAL))
     ), ("refused file\n", told, 1)
+    yield os.path.exists("record"), False
+
+
+def has_no_null_device():
+    """Without a null device the program answers, and a stream that is closed can't be written."""
+    version = (harness.REPOSITORY / "rows/version.txt").read_text()
+    yield ended_so("--version", **fails(("open:null:1", errno.ENOENT))), (version, "", 0)
+    none = fails(*((f"open:null:{count}", errno.ENOENT) for count in (1, 2, 3)))
+    run = subprocess.run(
+        ["sh", "-c", '"$0" --version >&-', EXCHANGE],
+        capture_output=True,
+        env={"LD_PRELOAD": os.environ["LIBRARIES"], **none},
+    )
+    yield (run.stdout, run.stderr, run.returncode), (
+        b"",
+        b"exchange: the answer can't be written: Bad file descriptor (os error 9)\n",
+        3,
+    )
+    nothing = fails(("open:null:1", errno.ENOENT), ("open:/:1", errno.EMFILE))
+    yield ended_so("--version", **nothing), (
+        "",
+        "exchange: nothing can be opened: Too many open files (os error 24)\n",
+        3,
+    )
 
 
 def twins():
@@ -506,10 +532,10 @@ def others_go_on():
 CASES = [
     orders_of_scripts, orders_of_sessions, orders_of_readers, cannot_lock, cannot_open,
     is_cut_without_threads, is_moved_before_the_lock, new_files_of_others, image_that_fails,
-    record_that_fails, twins, others_go_on,
+    record_that_fails, has_no_null_device, twins, others_go_on,
 ]  # fmt: skip
 
 if __name__ == "__main__":
     report = harness.Report("files")
     harness.run_cases(report, CASES, PROCESSES)
-    report.finish(86, f"{len(CASES)} cases, {{tried}} things looked at, {{wrong}} cases wrong")
+    report.finish(92, f"{len(CASES)} cases, {{tried}} things looked at, {{wrong}} cases wrong")

@@ -45,13 +45,15 @@ ROWS = [
     ([PEEK, "bye\n"], "a k t1 a t1", f"{WORD}bye\n", ""),
 ]  # fmt: skip
 
-# Rows in which a call fails: which one, and what comes of it then. Nothing is tried once more.
+# Rows in which a call fails: which one, with the number of its error or by EIO, and what comes of
+# it then. Nothing is tried once more, but a read that a signal interrupts.
 FAILING = [
     ("sync:record:3", [PEEK * 3, PEEK * 3, PEEK], "a k t3 a t1 r", WORD * 3, "record"),
     ("sync:record:3", [f"{PEEK}show 9\n{PEEK}bye\n"], "a k t2 r t1 r",
      f"{WORD}refused unknown\n", "record"),
     ("write:record:2", [PEEK * 3], "a t1 r", "", "record"),
     ("read:socket:1", [PEEK], "", "", "read"),
+    (f"read:socket:2:{errno.EINTR}", [PEEK, PEEK], "a k t1 a k t1 a", WORD * 2, ""),
     ("read:socket:2", [PEEK, PEEK], "a k t1 k k t1", WORD, "read"),
     ("write:pipe:1", [PEEK], "a k k k t1", "", "write"),
     ("write:pipe:2", [PEEK, PEEK, PEEK], "a k t1 a k k k t1", WORD, "write"),
@@ -94,7 +96,8 @@ def talk(says: Sequence[str], fails: str = "") -> tuple[str, str, int]:
         Path(name).unlink(missing_ok=True)
     ours, theirs = socket.socketpair(socket.AF_UNIX, socket.SOCK_SEQPACKET)
     env = {"LD_PRELOAD": CALLS, "CALLS_LOG": "calls"}
-    env |= {"CALLS_FAIL": f"{fails}:{errno.EIO}"} if fails else {}
+    if fails:
+        env["CALLS_FAIL"] = fails if fails.count(":") == 3 else f"{fails}:{errno.EIO}"
     with open("err", "wb") as err, ours, theirs:
         words = [EXCHANGE, "talk", "2x1x1", "--record", "record", "--sync"]
         process = PROCESSES.start(words, stdin=theirs, stderr=err, env=env)

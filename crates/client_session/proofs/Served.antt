@@ -34,7 +34,6 @@ pub record Going (most : ℕ) (from to : SeatView) (h : PendingInput) (held byte
   pub few : from.loses ≡ false → length holding.waiting ≤ most
   pub go_on : GoOn holding.all
   pub have_shown : HaveShown to.seen holding.all
-  pub reads : h.reads ≤ length bytes
 
 abbrev pub Serving : ℕ → (a b w v : Option (List ℕ)) (from to : SeatView) → PendingInput → List ℕ → Type 0
 Serving most a b w v from to h held = GoesThrough a b w v from to (Going most from to h held)
@@ -60,9 +59,9 @@ so p q = record {
   is_so = q;
 }
 
-pub Serving-none : (a w : Option (List ℕ)) (p : SeatView) (h : PendingInput) (held : List ℕ) → h.pending ≡ [] → h.reads ≡ 0 → held ≡ []
+pub Serving-none : (a w : Option (List ℕ)) (p : SeatView) (h : PendingInput) (held : List ℕ) → h.pending ≡ [] → held ≡ []
     → Serving 1 a a w w p p h held
-Serving-none a w p h held e zero none = subst (Serving 1 a a w w p p h) (sym none) record {
+Serving-none a w p h held e none = subst (Serving 1 a a w w p p h) (sym none) record {
   bytes = [];
   entries = [];
   written = [];
@@ -83,7 +82,6 @@ Serving-none a w p h held e zero none = subst (Serving 1 a a w w p p h) (sym non
     few = λ all. omega arith;
     go_on = tt;
     have_shown = tt;
-    reads = omega (arith, zero);
   };
 }
 
@@ -126,7 +124,6 @@ Serving-read most a b c w v from to old new held p more = record {
     few = s.few;
     go_on = s.go_on;
     have_shown = s.have_shown;
-    reads = omega (arith, s.reads, more.reads, length-append p.bytes more.bytes);
   };
 }
 
@@ -188,7 +185,6 @@ Serving-told a b w v u from to next h held was p t = subst (λ (q : SeatView). S
     few = λ all. omega arith;
     go_on = p.is_so.go_on;
     have_shown = p.is_so.have_shown;
-    reads = p.is_so.reads;
   };
 }
 
@@ -203,7 +199,6 @@ Serving-held a b w v from to h held p loses =
       go_on = s.go_on;
       have_shown =
           s.have_shown;
-      reads = s.reads;
     })
 
 Serving-first : (a b w v u : Option (List ℕ)) (from to next : SeatView) (h : PendingInput) (held still : List ℕ) → IsAllRecorded from
@@ -285,7 +280,6 @@ Serving-turn a b c w v from to next old new held line longer p t put =
       few = λ all. omega (arith, s.few all, length_push s.holding.waiting t.turn);
       go_on = every-push (λ (x : Turn). SessionGoesOn x.command) s.holding.all t.turn s.go_on t.last;
       have_shown = shown_push to next s.holding.all t.turn s.have_shown t.did;
-      reads = omega (arith, s.reads, t.reads, length-append p.bytes t.bytes);
     })
 
 -- ---- the ends, but for what is held
@@ -304,33 +298,28 @@ held_by_bye a b c w v from to next old new held line longer p t put =
 
 -- what a fault says, where it isn't one of writing
 stopped_as : (e : ServeFault) (known : Option (List ℕ)) (from to : SeatView) (bytes rest : List ℕ) (entries : List Entry) (written held : List ℕ)
-    (h : IsHolding from to bytes rest entries written held) → GoOn h.all → RestAt e known (length bytes) rest → HoldsAtEnd (Some e) known held from to bytes
+    (h : IsHolding from to bytes rest entries written held) → GoOn h.all → RestAt e known rest → HoldsAtEnd (Some e) known held from to bytes
     entries written
 stopped_as Write known from to bytes rest entries written held h go at = absurd at
 stopped_as Record known from to bytes rest entries written held h go at = absurd at
 stopped_as e known from to bytes rest entries written held h go at = (rest, h, go, at)
 
-rest_at : (f : InputFault) (known : Option (List ℕ)) (h : PendingInput) (read : ℕ) → h.reads ≤ read → IsFaultAt f known h
-    → RestAt (of_input f) known read h.pending
-rest_at f known h read fewer at = left f at where
+rest_at : (f : InputFault) (known : Option (List ℕ)) (h : PendingInput) → IsFaultAt f known h → RestAt (of_input f) known h.pending
+rest_at f known h at = left f at where
   part : IsPartialCommand h.pending
   part = record { lines = []; part = h.pending; each = tt; short = tt; whole = refl }
 
-  left : (f : InputFault) → IsFaultAt f known h → RestAt (of_input f) known read h.pending
+  left : (f : InputFault) → IsFaultAt f known h → RestAt (of_input f) known h.pending
   left input.Read at = (part, at)
   left input.LineTooLong at = (part, at.0, at.1)
   left input.Cut at = (part, at.0, at.1, at.2)
-  left input.Turns at = (part, at.0, omega (arith, at.1, fewer))
+  left input.Turns at = (part, at)
 
 pub stopped_reading : (most : ℕ) (f : InputFault) (a b w v : Option (List ℕ)) (from to : SeatView) (h : PendingInput) (held : List ℕ)
     → Serving most a b w v from to h held → IsFaultAt f b h → Holds a b w v from to held (Some (of_input f))
 stopped_reading most f a b w v from to h held p at =
     so p (stopped_as (of_input f) b from to p.bytes h.pending p.entries p.written held p.is_so.holding p.is_so.go_on
-    (rest_at f b h (length p.bytes) p.is_so.reads at))
-
-more_read : (e : ServeFault) (known : Option (List ℕ)) (few many : ℕ) (rest : List ℕ) → few ≤ many → RestAt e known few rest → RestAt e known many rest
-more_read Turns known few many rest le at = (at.0, at.1, omega (arith, at.2, le))
-more_read e known few many rest le at = at
+    (rest_at f b h at))
 
 stopped_turn : (most : ℕ) (e : ServeFault) (a b c w v : Option (List ℕ)) (from to next : SeatView) (h : PendingInput) (held : List ℕ)
     → Serving most a b w v from to h held → TurnStopped e b c h to next → Holds a c w v from next held (Some e)
@@ -342,9 +331,7 @@ stopped_turn most e a b c w v from to next h held p t = subst (λ (q : SeatView)
   asked = p.asked;
   appended = p.appended;
   is_so = stopped_as e c from to (p.bytes ++ t.bytes) (h.pending ++ t.bytes) p.entries p.written held
-      (holding_read from to p.bytes t.bytes h.pending (h.pending ++ t.bytes) p.entries p.written held p.is_so.holding refl) p.is_so.go_on
-      (more_read e c (h.reads + length t.bytes) (length (p.bytes ++ t.bytes)) (h.pending ++ t.bytes)
-      (omega (arith, p.is_so.reads, length-append p.bytes t.bytes)) t.rest);
+      (holding_read from to p.bytes t.bytes h.pending (h.pending ++ t.bytes) p.entries p.written held p.is_so.holding refl) p.is_so.go_on t.rest;
 }
 
 -- what is held are the lines of those that wait

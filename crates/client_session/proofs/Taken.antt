@@ -29,7 +29,6 @@ LinesTaken-none a h text = record {
   count = refl;
   text = sym (append-nil text);
   kept = append-nil h.pending;
-  reads = omega arith;
 }
 
 pub LinesTaken-read : (a b c : Option (List ℕ)) (old mid new : PendingInput) (before after : List ℕ) (n : ℕ) → LinesTaken a b old mid before after n
@@ -43,13 +42,12 @@ LinesTaken-read a b c old mid new before after n t more = record {
   text = t.text;
   kept = sym (append_assoc old.pending t.bytes more.bytes) ∙ ap (λ l. l ++ more.bytes) t.kept
       ∙ append_assoc (flat_map with_feed t.lines) mid.pending more.bytes ∙ ap (λ l. flat_map with_feed t.lines ++ l) more.kept;
-  reads = omega (arith, t.reads, more.reads, length-append t.bytes more.bytes);
 }
 
 pub LinesTaken-line : (a b : Option (List ℕ)) (old mid new : PendingInput) (before after text : List ℕ) (n k : ℕ) → LinesTaken a b old mid before after n
-    → HasLine mid.pending k → k ≤ LINE_BYTES → text ≡ after ++ take (k + 1) mid.pending → new.pending ≡ drop (k + 1) mid.pending → new.reads ≡ mid.reads
+    → HasLine mid.pending k → k ≤ LINE_BYTES → text ≡ after ++ take (k + 1) mid.pending → new.pending ≡ drop (k + 1) mid.pending
     → LinesTaken a b old new before text (n + 1)
-LinesTaken-line a b old mid new before after text n k t has short grows rest same =
+LinesTaken-line a b old mid new before after text n k t has short grows rest =
     let line : List ℕ = take k mid.pending in
     let front = line_front mid.pending k has in
     let flat : flat_map with_feed (t.lines ++ line ∷ []) ≡ flat_map with_feed t.lines ++ take (k + 1) mid.pending =
@@ -64,7 +62,6 @@ LinesTaken-line a b old mid new before after text n k t has short grows rest sam
       kept = t.kept ∙ ap (λ l. flat_map with_feed t.lines ++ l) (sym (take-append-drop (k + 1) mid.pending))
           ∙ sym (append_assoc (flat_map with_feed t.lines) _ _) ∙ ap (λ l. l ++ drop (k + 1) mid.pending) (sym flat)
           ∙ ap (λ l. flat_map with_feed (t.lines ++ line ∷ []) ++ l) (sym rest);
-      reads = omega (arith, t.reads, same);
     }
 
 pub pending_at : (e : InputFault) (known : Option (List ℕ)) (h : PendingInput) → IsFaultAt e known h → PendingAt (of_input e) known h

@@ -1,7 +1,6 @@
 -- How one read follows another.
 use Rattle.std.proofs.Common.{◌≡◌, ◌+◌, ◌<◌, ◌≤◌, ℕ, zero, suc, List, [], ◌++◌, length, Option, Some, None, Result, Ok, Err, IfOk, IfErr, IfSome, MatchOption, subst, refl, sym, ap, ◌∙◌, append_assoc}
 use Rattle.std.proofs.Common.{append-nil, arith}
-use Rattle.std.proofs.lemmas.List.{length-append, nil_from_length}
 use Rattle.byte_streams.proofs.Carrying.{consumes_none, consumes_then}
 use Rattle.client_session.specs.declared.limits.TheConstants.{INPUT_BYTES, LINE_BYTES, MAX_READS}
 use Rattle.std.specs.Io.KnownBytes.{IsAtEnd}
@@ -13,21 +12,18 @@ use Rattle.client_session.specs.declared.pending_line.PendingLine.{PendingLine}
 use Rattle.client_session.specs.Steps.{IsFront}
 
 pub TakesIn-none : (a : Option (List ℕ)) (h : PendingInput) → TakesIn a a h h
-TakesIn-none a h = record { bytes = []; consumed = consumes_none a; kept = append-nil h.pending; reads = omega arith }
+TakesIn-none a h = record { bytes = []; consumed = consumes_none a; kept = append-nil h.pending }
 
 pub TakesIn-more : (a b c : Option (List ℕ)) (old mid new : PendingInput) → TakesIn a b old mid → TakesIn b c mid new → TakesIn a c old new
 TakesIn-more a b c old mid new t u = record {
   bytes = t.bytes ++ u.bytes;
   consumed = consumes_then a b c t.bytes u.bytes t.consumed u.consumed;
   kept = sym (append_assoc old.pending t.bytes u.bytes) ∙ ap (λ l. l ++ u.bytes) t.kept ∙ u.kept;
-  reads = omega (arith, t.reads, u.reads, length-append t.bytes u.bytes);
 }
 
--- what is left falls where a read gave n bytes
-pub fuel_read : (old new : PendingInput) (n : ℕ) → length new.pending ≡ length old.pending + n → length new.pending ≤ INPUT_BYTES → old.reads ≤ new.reads
-    → new.reads ≤ MAX_READS → (0 < n → new.reads ≡ old.reads + 1) → fuel new ≤ fuel old
-fuel_read old new zero longer room more limit counted = omega arith
-fuel_read old new (suc n) longer room more limit counted = let more = counted (omega arith) in omega arith
+-- what is left falls with each read
+pub fuel_read : (old new : PendingInput) → length new.pending ≤ INPUT_BYTES → new.reads ≤ MAX_READS → new.reads ≡ old.reads + 1 → fuel new ≤ fuel old
+fuel_read old new room limit counted = omega arith
 
 -- no line is there
 pub none_of : (o : Option ℕ) → ((x : ℕ) → o ≡ Some x → ⊥) → o ≡ None
@@ -41,24 +37,17 @@ pub found_at_end : (r : Result (Option ℕ) InputFault) (known : Option (List �
 found_at_end (Ok found) known h end is = rw is.0 (is.1, end)
 found_at_end (Err e) known h end is = tt
 
--- no byte came
-same_pending : {a b : Option (List ℕ)} (old new : PendingInput) → TakesIn a b old new → length new.pending ≡ length old.pending → new.pending ≡ old.pending
-same_pending old new t same =
-    let none : t.bytes ≡ [] = nil_from_length t.bytes (omega (arith, ap length t.kept, length-append old.pending t.bytes, same)) in
-    sym t.kept ∙ ap (λ l. old.pending ++ l) none ∙ append-nil old.pending
-
 -- and so a line that is pending is cut
-pub cut_at_end : {a b : Option (List ℕ)} (r : Result (Option ℕ) InputFault) (old new : PendingInput) → TakesIn a b old new → length new.pending
-    ≡ length old.pending → IsAtEnd b → IsSessionLine old.pending
-    → IfErr r (λ e. (e ≡ Cut) × (0 < length new.pending)) → IfErr r (λ e. IsFaultAt e b new)
-cut_at_end (Ok found) old new t same end line err = tt
-cut_at_end (Err e) old new t same end line err = rw err.0 (subst IsSessionLine (sym (same_pending old new t same)) line, err.1, end)
+pub cut_at_end : (b : Option (List ℕ)) (r : Result (Option ℕ) InputFault) (old new : PendingInput) → new.pending ≡ old.pending → IsAtEnd b
+    → IsSessionLine old.pending → IfErr r (λ e. (e ≡ Cut) × (0 < length new.pending)) → IfErr r (λ e. IsFaultAt e b new)
+cut_at_end b (Ok found) old new same end line err = tt
+cut_at_end b (Err e) old new same end line err = rw err.0 (subst IsSessionLine (sym same) line, err.1, end)
 
 -- the reader failed, or was asked as often as it may be, before a line was there
 pub fault_before : (e : InputFault) (known : Option (List ℕ)) (old new : PendingInput) → IsSessionLine old.pending → HasBroughtNothing e old new
     → IsFaultAt e known new
 fault_before Read known old new line none = subst IsSessionLine (sym none.0) line
-fault_before Turns known old new line none = (subst IsSessionLine (sym none.0) line, none.1)
+fault_before Turns known old new line none = subst IsSessionLine (sym none.0) line
 fault_before e known old new line none = absurd none.1
 
 -- the line in front stands where it was

@@ -61,9 +61,9 @@ lines_are a b old mid new n k before after has rest t =
 -- a fault came in the lines of a batch
 pub stopped_in_lines : (e : ServeFault) (a b : Option (List ℕ)) (old mid new : PendingInput) (seat : SeatView) (n count : ℕ) (before after : List ℕ)
     → HasLine old.pending n → n ≤ LINE_BYTES
-    → BeginsBatch (take n old.pending) count → mid.pending ≡ drop (n + 1) old.pending → mid.reads ≡ old.reads → LinesStopped e a b mid new before after count
+    → BeginsBatch (take n old.pending) count → mid.pending ≡ drop (n + 1) old.pending → LinesStopped e a b mid new before after count
     → TurnStopped e a b old seat seat
-stopped_in_lines e a b old mid new seat n count before after has short begins rest same s = record {
+stopped_in_lines e a b old mid new seat n count before after has short begins rest s = record {
   bytes = t.bytes;
   consumed = t.consumed;
   same = refl;
@@ -84,11 +84,11 @@ stopped_in_lines e a b old mid new seat n count before after has short begins re
     whole = whole;
   }
 
-  left : (e : ServeFault) → PendingAt e b new → RestAt e b (old.reads + length t.bytes) (old.pending ++ t.bytes)
+  left : (e : ServeFault) → PendingAt e b new → RestAt e b (old.pending ++ t.bytes)
   left Read h = (part, h)
   left LineTooLong h = (part, h.0, h.1)
   left Cut h = (part, h.0, omega (arith, length-append old.pending t.bytes, has.0), h.1)
-  left Turns h = (part, h.0, omega (arith, h.1, t.reads, same))
+  left Turns h = (part, h)
   left NoMemory h = record {
     head = take n old.pending;
     body = t.lines;
@@ -128,8 +128,8 @@ pub batch_taken : (a b : Option (List ℕ)) (old mid new : PendingInput) (from t
     → HasLine old.pending n → n ≤ LINE_BYTES
     → BeginsBatch (take n old.pending) count → mid.pending ≡ drop (n + 1) old.pending → before ≡ take (n + 1) old.pending → LinesTaken a b mid new before after
     count
-    → mid.reads ≡ old.reads → all ≡ after → Acts from to (Submits from.shape from.session all) line → TurnTaken a b old new from to line false
-batch_taken a b old mid new from to n count before after all line has short begins rest first t reads same acts =
+    → all ≡ after → Acts from to (Submits from.shape from.session all) line → TurnTaken a b old new from to line false
+batch_taken a b old mid new from to n count before after all line has short begins rest first t same acts =
     let head : List ℕ = take n old.pending in
     let text : all ≡ with_feed head ++ flat_map with_feed t.lines = same ∙ t.text ∙ ap (λ l. l ++ flat_map with_feed t.lines)
     (first ∙ sym (line_front old.pending n has)) in
@@ -145,7 +145,6 @@ batch_taken a b old mid new from to n count before after all line has short begi
       bytes = t.bytes;
       consumed = t.consumed;
       kept = lines_are a b old mid new n count before after has rest t;
-      reads = omega (arith, t.reads, reads);
       did = acts.did;
       line_is = acts.line_is;
       last = tt;
@@ -179,11 +178,11 @@ pub batch_done : {T : Type 0} (r : Result T ServeFault) (a b : Option (List ℕ)
     (before after all line : List ℕ) → HasLine old.pending n → n ≤ LINE_BYTES
     → BeginsBatch (take n old.pending) count → mid.pending ≡ drop (n + 1) old.pending → before ≡ take (n + 1) old.pending → LinesTaken a b mid new before after
     count
-    → mid.reads ≡ old.reads → all ≡ after → IsDoneOrFailed from to (Submits from.shape from.session all) (λ (es : List Entry). es ≡ []) line r
+    → all ≡ after → IsDoneOrFailed from to (Submits from.shape from.session all) (λ (es : List Entry). es ≡ []) line r
     → OnOk r (TurnTaken a b old new from to line false) × IfErr r (λ e. TurnFails e a b old from to)
-batch_done (Ok x) a b old mid new from to n count before after all line has short begins rest first t reads same acts =
-    (batch_taken a b old mid new from to n count before after all line has short begins rest first t reads same acts, tt)
-batch_done (Err e) a b old mid new from to n count before after all line has short begins rest first t reads same broken =
+batch_done (Ok x) a b old mid new from to n count before after all line has short begins rest first t same acts =
+    (batch_taken a b old mid new from to n count before after all line has short begins rest first t same acts, tt)
+batch_done (Err e) a b old mid new from to n count before after all line has short begins rest first t same broken =
     (tt, batch_lost e a b old mid new from to n count before after has short begins rest t broken)
 
 -- the reader isn't asked by what is done then
@@ -199,10 +198,10 @@ none_after command h = refl
 -- a command with no lines after its own was taken, and done
 pub alone_taken : (a : Option (List ℕ)) (old new : PendingInput) (from to : SeatView) (n : ℕ) (command : Option SessionCommand) (line : List ℕ) (ends : Bool)
     → HasLine old.pending n → n ≤ LINE_BYTES
-    → Means (take n old.pending) command → StandsAlone command → new.pending ≡ drop (n + 1) old.pending → new.reads ≡ old.reads
+    → Means (take n old.pending) command → StandsAlone command → new.pending ≡ drop (n + 1) old.pending
     → ((text : List ℕ) → Acts from to (DoesCommand from.shape from.session command text) line) → MatchBool ends (command ≡ Some Bye) (SessionGoesOn command)
     → TurnTaken a a old new from to line ends
-alone_taken a old new from to n command line ends has short means alone rest same acts last =
+alone_taken a old new from to n command line ends has short means alone rest acts last =
     let done = acts (with_feed (take n old.pending) ++ []) in
     record {
       turn = record { head = take n old.pending; body = []; command = command; did = done.answer };
@@ -217,7 +216,6 @@ alone_taken a old new from to n command line ends has short means alone rest sam
       consumed = consumes_none a;
       kept = append-nil old.pending ∙ front_is old.pending n has ∙ ap (λ l. with_feed (take n old.pending) ++ l) (sym rest)
           ∙ ap (λ l. l ++ new.pending) (sym (append-nil (with_feed (take n old.pending))));
-      reads = omega (arith, same);
       did = done.did;
       line_is = done.line_is;
       last = last;

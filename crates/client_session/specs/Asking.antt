@@ -28,8 +28,8 @@ pub record StopsAsking (before after : Option ℕ) (reads : ℕ)
   pub counted : RisesBy before after asks
   pub within : IsWithinLimit fault (reads + asks)
 
--- the reader gave bytes each time that it was asked: as many more such reads are counted, and all
--- of these may be made
+-- the reader gave bytes each time that it was asked, or was interrupted by a signal: as many more
+-- reads are counted, and all of these may be made
 pub record GivesEachTime (before after : Option ℕ) (old new : ℕ) : Type 0 where
   pub asks : ℕ
   pub counted : RisesBy before after asks

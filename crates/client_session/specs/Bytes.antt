@@ -6,7 +6,7 @@ use Rattle.std.specs.Io.KnownBytes.{Consumes}
 use Rattle.batch.specs.Text.{line_feed}
 use Rattle.client_session.specs.declared.limits.TheConstants.{INPUT_BYTES, LINE_BYTES, MAX_READS}
 
--- bytes that were read and stand in no line yet, and how often the reader gave some
+-- bytes that were read and stand in no line yet, and how often the reader was asked
 pub record PendingInput : Type 0 where
   pub pending : List ℕ
   pub reads : ℕ
@@ -22,13 +22,11 @@ IsSessionLine line = HasNoFeed line × (length line ≤ LINE_BYTES)
 abbrev pub HasLine : List ℕ → ℕ → Type 0
 HasLine bytes n = (n < length bytes) × (slice_index bytes n ≡ line_feed) × HasNoFeed (take n bytes)
 
--- no byte is lost: what was pending, and what the reader gave, is pending now; each counted read
--- gave some
+-- no byte is lost: what was pending, and what the reader gave, is pending now
 pub record TakesIn (before after : Option (List ℕ)) (old new : PendingInput) : Type 0 where
   pub bytes : List ℕ
   pub consumed : Consumes before after bytes
   pub kept : old.pending ++ bytes ≡ new.pending
-  pub reads : new.reads ≤ old.reads + length bytes
 
 -- more than the bytes that may still come, by as many as a read may give, with those that are
 -- pending

@@ -8,7 +8,7 @@ use Rattle.batch_book.specs.declared.entry.Entry.{Entry}
 use Rattle.batch_book.specs.History.{IsPrefix}
 use Rattle.batch_book.specs.Seats.{SeatState}
 use Rattle.client_session.specs.declared.limits.TheConstants.{REPLY_BUFFER_BYTES, INPUT_BYTES}
-use Rattle.client_session.specs.declared.limits.TheConstants.{LINE_BYTES, MAX_READS}
+use Rattle.client_session.specs.declared.limits.TheConstants.{LINE_BYTES}
 use Rattle.client_session.specs.declared.command.SessionCommand.TheVariants.{Batch, Bye}
 use Rattle.client_session.specs.declared.fault.ServeFault.{ServeFault}
 use Rattle.client_session.specs.declared.fault.ServeFault.TheVariants.{Read, Write, LineTooLong}
@@ -90,19 +90,17 @@ pub record IsUnkept (rest : List ℕ) : Type 0 where
   pub room : length part ≤ INPUT_BYTES
   pub whole : rest ≡ lines_text (head ∷ body) ++ part
 
--- what stands after the commands that were served where a fault ends the session, of whose bytes
--- so many were read
-abbrev pub RestAt : ServeFault → Option (List ℕ) → ℕ → List ℕ → Type 0
-RestAt Read known read rest = (p : IsPartialCommand rest) × IsSessionLine p.part
-RestAt LineTooLong known read rest =
+-- what stands after the commands that were served where a fault ends the session
+abbrev pub RestAt : ServeFault → Option (List ℕ) → List ℕ → Type 0
+RestAt Read known rest = (p : IsPartialCommand rest) × IsSessionLine p.part
+RestAt LineTooLong known rest =
     (p : IsPartialCommand rest) × HasNoFeed (take (LINE_BYTES + 1) p.part)
     × (LINE_BYTES < length p.part)
-RestAt Cut known read rest =
+RestAt Cut known rest =
     (p : IsPartialCommand rest) × IsSessionLine p.part × (0 < length rest) × IsAtEnd known
-RestAt Turns known read rest =
-    (p : IsPartialCommand rest) × IsSessionLine p.part × (MAX_READS ≤ read)
-RestAt NoMemory known read rest = IsUnkept rest
-RestAt fault known read rest = ⊥
+RestAt Turns known rest = (p : IsPartialCommand rest) × IsSessionLine p.part
+RestAt NoMemory known rest = IsUnkept rest
+RestAt fault known rest = ⊥
 
 -- all that the session asked could be told to it
 abbrev pub IsAllRecorded : SeatView → Type 0
@@ -166,7 +164,7 @@ HasEnded (Some Record) known old new bytes entries written = IsBroken old new by
 HasEnded (Some fault) known old new bytes entries written =
     (turns : List Turn) × (rest : List ℕ)
     × IsSession false old new turns bytes rest entries written
-    × GoOn turns × RestAt fault known (length bytes) rest × IsAllRecorded new
+    × GoOn turns × RestAt fault known rest × IsAllRecorded new
 
 -- A session whose reply lines were told but for those that are held. Where no entry can be lost,
 -- that is one line at most.
@@ -193,7 +191,7 @@ HoldsAtEnd (Some Record) known held old new bytes entries written =
     IsBroken old new bytes entries written
 HoldsAtEnd (Some fault) known held old new bytes entries written =
     (rest : List ℕ) × (h : IsHolding old new bytes rest entries written held)
-    × GoOn h.all × RestAt fault known (length bytes) rest
+    × GoOn h.all × RestAt fault known rest
 
 -- no more can be told after it
 abbrev pub cuts_off : Option ServeFault → Bool

@@ -11,7 +11,7 @@ use Rattle.batch_book.specs.declared.call.Call.TheVariants.{Fetch}
 use Rattle.batch_book.specs.declared.reply.Reply.{Reply}
 use Rattle.batch_book.specs.declared.reply.Reply.TheVariants.{Fetched, Ran}
 use Rattle.client_session.specs.declared.limits.TheConstants.{REPLY_BUFFER_BYTES, INPUT_BYTES}
-use Rattle.client_session.specs.declared.limits.TheConstants.{LINE_BYTES, MAX_READS}
+use Rattle.client_session.specs.declared.limits.TheConstants.{LINE_BYTES}
 use Rattle.client_session.specs.declared.input.InputFault.{InputFault}
 use Rattle.client_session.specs.declared.input.InputFault.TheVariants as input
 use Rattle.client_session.specs.declared.command.SessionCommand.{SessionCommand}
@@ -96,7 +96,6 @@ pub record LinesTaken (before after : Option (List ℕ)) (old new : PendingInput
   pub count : length lines ≡ n
   pub text : text_after ≡ text_before ++ lines_text lines
   pub kept : old.pending ++ bytes ≡ lines_text lines ++ new.pending
-  pub reads : new.reads ≤ old.reads + length bytes
 
 -- what is pending where a fault stopped the taking of lines
 abbrev pub PendingAt : ServeFault → Option (List ℕ) → PendingInput → Type 0
@@ -104,7 +103,7 @@ PendingAt Read known h = IsSessionLine h.pending
 PendingAt LineTooLong known h =
     HasNoFeed (take (LINE_BYTES + 1) h.pending) × (LINE_BYTES < length h.pending)
 PendingAt Cut known h = IsSessionLine h.pending × IsAtEnd known
-PendingAt Turns known h = IsSessionLine h.pending × (h.reads ≡ MAX_READS)
+PendingAt Turns known h = IsSessionLine h.pending
 PendingAt NoMemory known h = length h.pending ≤ INPUT_BYTES
 PendingAt fault known h = ⊥
 
@@ -124,7 +123,6 @@ pub record TurnTaken (before after : Option (List ℕ)) (old new : PendingInput)
   pub bytes : List ℕ
   pub consumed : Consumes before after bytes
   pub kept : old.pending ++ bytes ≡ turn_text turn ++ new.pending
-  pub reads : new.reads ≤ old.reads + length bytes
   pub did : Did from to turn.did
   pub line_is : line ≡ turn.did.line
   pub last : MatchBool ends (turn.command ≡ Some Bye) (SessionGoesOn turn.command)
@@ -135,7 +133,7 @@ pub record TurnStopped (fault : ServeFault) (before after : Option (List ℕ)) (
   pub bytes : List ℕ
   pub consumed : Consumes before after bytes
   pub same : to ≡ from
-  pub rest : RestAt fault after (old.reads + length bytes) (old.pending ++ bytes)
+  pub rest : RestAt fault after (old.pending ++ bytes)
 
 -- a turn was taken from the input, of which nothing is told, since a call of it wasn't made
 pub record TurnLost (before after : Option (List ℕ)) (old : PendingInput)

@@ -1,7 +1,8 @@
 //! Lines from any reader, through a buffer of its own, with a limit on the calls of `read`.
 
 ghost use Rattle.std.specs.Prelude.{◌≡◌, ◌+◌, ◌-◌, ◌<◌, ◌≤◌, length, take, drop, [], Some, None};
-ghost use Rattle.std.specs.Prelude.{MatchResult, MatchOption, IfSome, IfNone, IfOk, IfErr};
+ghost use Rattle.std.specs.Prelude.{MatchResult, MatchOption, IfSome, IfNone, IfOk, IfErr, true};
+ghost use Rattle.std.specs.Prelude.{false};
 ghost use Rattle.std.specs.Io.KnownBytes.{IsAtEnd};
 ghost use Rattle.client_session.specs.Bytes.{PendingInput, TakesIn, HasLine, HasNoFeed, fuel};
 ghost use Rattle.client_session.specs.Asking.{GivesEachTime, StopsAsking};
@@ -11,6 +12,7 @@ ghost use Rattle.client_session.specs.Steps.{IsFront, of_input};
 use crate::counted_read::CountedRead;
 use crate::limits::{INPUT_BYTES, LINE_BYTES, MAX_READS};
 use crate::pending_line::PendingLine;
+use std::io::ErrorKind;
 use std::marker::Model;
 
 /// Why no line came.
@@ -101,18 +103,20 @@ impl Input {
         self.start += n;
     }
 
-    /// Asks the reader once. What is pending is moved to the front first.
-    fn fill<R: CountedRead>(&mut self, reader: &mut R) -> Result<usize, InputFault>
+    /// Asks the reader once, and says whether more may come: not at its end. A read that a signal
+    /// interrupts brought nothing, and counts. What is pending is moved to the front first.
+    fn fill<R: CountedRead>(&mut self, reader: &mut R) -> Result<bool, InputFault>
         requires { length self.old.pending ≤ LINE_BYTES }
         ensures takes { TakesIn (R.remaining reader.old) (R.remaining reader.new) self.old
             self.new }
-        ensures count { IfOk result (λ n. length self.new.pending ≡ length self.old.pending + n) }
-        ensures end { IfOk result (λ n. n ≡ 0 → IsAtEnd (R.remaining reader.new)) }
-        ensures reads { IfOk result (λ n. 0 < n → self.new.reads ≡ self.old.reads + 1) }
+        ensures same { IfOk result (λ more. more ≡ false → self.new.pending ≡ self.old.pending) }
+        ensures end { IfOk result (λ more. more ≡ false → IsAtEnd (R.remaining reader.new)) }
+        ensures reads { IfOk result (λ more. more ≡ true
+            → self.new.reads ≡ self.old.reads + 1) }
         ensures err { IfErr result (λ e. HasBroughtNothing e self.old self.new) }
-        ensures gives { IfOk result (λ n. 0 < n →
+        ensures gives { IfOk result (λ more. more ≡ true →
             GivesEachTime (R.asked reader.old) (R.asked reader.new) self.old.reads self.new.reads) }
-        ensures last { IfOk result (λ n. n ≡ 0 →
+        ensures last { IfOk result (λ more. more ≡ false →
             StopsAsking (R.asked reader.old) (R.asked reader.new) self.old.reads None) }
         ensures stops { IfErr result (λ e.
             StopsAsking (R.asked reader.old) (R.asked reader.new) self.old.reads
@@ -128,10 +132,15 @@ impl Input {
         self.start = 0;
         self.end = len;
         match reader.ask(&mut self.buffer[len..]) {
+            Ok(0) => Ok(false),
             Ok(n) => {
                 self.end = len + n;
-                self.reads += n.min(1);
-                Ok(n)
+                self.reads += 1;
+                Ok(true)
+            }
+            Err(error) if error.kind() == ErrorKind::Interrupted => {
+                self.reads += 1;
+                Ok(true)
             }
             Err(_) => Err(InputFault::Read),
         }
@@ -189,7 +198,7 @@ impl Input {
             if self.pending().len() > LINE_BYTES {
                 return Err(InputFault::LineTooLong);
             }
-            if self.fill(reader)? == 0 {
+            if !self.fill(reader)? {
                 return self.at_end();
             }
         }

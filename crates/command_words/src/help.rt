@@ -504,6 +504,7 @@ or by `bye` another line follows, which `exchange serve --help` shows. Here they
 mean:
   ended open    CLIENT.in or CLIENT.out can't be opened: it asked nothing
   ended cut     the client went away within a line or within a batch
+  ended turns   CLIENT.in was read 1000000 times: a new host counts anew
   ended read    CLIENT.in can't be read any further
   ended write   the client reads its replies no more
   ended record  the record couldn't be written: no call is made any more

@@ -41,8 +41,9 @@ use crate::devices::Devices;
 use crate::limits::UNWRITTEN;
 use crate::promises::answer;
 use crate::responding::ProgramExit;
-use named_files::{HostPorts, OutputFailure};
+use named_files::HostPorts;
 use std::fs::{File, OpenOptions};
+use std::io::Write;
 use std::os::fd::{AsRawFd, IntoRawFd};
 use std::process::ExitCode;
 use std::rt::{Env, Files};
@@ -50,7 +51,8 @@ use std::{env, io, mem};
 
 fn main(rt: HostRuntime) -> ExitCode {
     if let Err(error) = take_standard(&rt) {
-        OutputFailure::from(error).tell(&mut rt.stderr());
+        let err = &mut rt.stderr();
+        let _ = err.writeln(format_args!("exchange: nothing can be opened: {error}"));
         return ExitCode::from(UNWRITTEN);
     }
     let arguments = command_line(&rt);
@@ -72,17 +74,26 @@ fn command_line<R: AllocGlobal + Env>(rt: &R) -> io::Result<Vec<String>> {
     Ok(env::args(rt)?.collect(rt.alloc())?)
 }
 
+/// This, or the folder `/` where it can't be opened.
+fn or_root<R: Files<File = File>>(rt: &R, opened: io::Result<File>) -> io::Result<File> {
+    match opened {
+        Ok(file) => Ok(file),
+        Err(_) => File::open(rt, "/"),
+    }
+}
+
 /// Sees to it that no file can become standard input, output or error: where one is closed, its
-/// number, 0 to 2, is taken by the null device, so that using it fails. The system gives the lowest
-/// number that is free.
+/// number, 0 to 2, is taken by the null device, or by the folder `/` where there is none, so that
+/// using it fails. The system gives the lowest number that is free.
 fn take_standard<R: Files<File = File>>(rt: &R) -> io::Result<()> {
     for _ in 0..3 {
-        let null = OpenOptions::new().write(true).open(rt, "/dev/null")?;
-        match null.as_raw_fd() {
-            0 => mem::forget(null),
+        let null = OpenOptions::new().write(true).open(rt, "/dev/null");
+        let taken = or_root(rt, null)?;
+        match taken.as_raw_fd() {
+            0 => mem::forget(taken),
             1 | 2 => {
-                drop(null);
-                File::open(rt, "/dev/null")?.into_raw_fd();
+                drop(taken);
+                or_root(rt, File::open(rt, "/dev/null"))?.into_raw_fd();
             }
             _ => break,
         }

@@ -19,16 +19,16 @@ const MAX_NAMES: usize = 100;
 /// What the name of a new file has after that of its place, and before a number.
 const NEW_FILE: &str = ".exchange-";
 
-/// The names of the standard streams.
-const STREAMS: [&str; 3] = ["/dev/stdin", "/dev/stdout", "/dev/stderr"];
+/// How often a file is opened that another has replaced, or removed, before it was locked.
+const MAX_TURNS: usize = 10;
 
 /// What is open to be written.
 #[derive(Drop)]
 enum OutputTarget {
     /// A device or a pipe.
     Device,
-    /// The file to which this name led.
-    Held(String),
+    /// The file to which this name led, and whether it was made then.
+    Held { name: String, is_made: bool },
     /// A new file of this name, which goes to this place.
     New { name: String, file_id: PathBuf },
 }
@@ -79,16 +79,11 @@ fn is_at(rt: &HostRuntime, name: &str, file_id: &FileId) -> Result<bool, AllocEr
     Ok(there.is_some_and(|there| are_one_file(&there, file_id)))
 }
 
-/// Whether the file of this name is one that the job names, or a standard stream.
+/// Whether the file of this name, there or not, is one that the job names.
 fn is_used(rt: &HostRuntime, apart: &DistinctFiles, name: &str) -> Result<bool, AllocError> {
     let Some(file_id) = rt.file_id(name)? else {
         return Ok(false);
     };
-    for stream in STREAMS {
-        if is_at(rt, stream, &file_id)? {
-            return Ok(true);
-        }
-    }
     for file in apart.files() {
         if is_at(rt, file.name.as_str(), &file_id)? {
             return Ok(true);
@@ -97,35 +92,39 @@ fn is_used(rt: &HostRuntime, apart: &DistinctFiles, name: &str) -> Result<bool, 
     Ok(false)
 }
 
-/// A file of this name that is new, or that nobody uses and nothing was written to, as one is that
-/// was left by a program that was killed.
-fn make_new(rt: &HostRuntime, apart: &DistinctFiles, name: &str) -> io::Result<Option<File>> {
-    let is_there = match fs::symlink_metadata(rt, name) {
-        Ok(metadata) if !metadata.is_file() || metadata.len() > 0 => return Ok(None),
-        there => there.is_ok(),
+/// A new file of this name, where nothing has it.
+fn make_new(rt: &HostRuntime, name: &str) -> io::Result<Option<File>> {
+    let file = match OpenOptions::new()
+        .write(true)
+        .create_new(true)
+        .open(rt, name)
+    {
+        Ok(file) => file,
+        Err(error) if error.kind() == ErrorKind::AlreadyExists => return Ok(None),
+        Err(error) => return Err(error),
     };
-    if is_used(rt, apart, name)? {
-        return Ok(None);
-    }
-    let file = OpenOptions::new().write(true).create(true).open(rt, name)?;
     match file.try_lock() {
         Err(TryLockError::WouldBlock) => Ok(None),
         Err(TryLockError::Error(error)) => {
-            if !is_there {
-                let _ = fs::remove_file(rt, name);
-            }
+            let _ = fs::remove_file(rt, name);
             Err(error)
         }
-        // Who had the lock before may have written something, or put the file elsewhere.
+        // Another may have written something before that, or put the file elsewhere.
         Ok(()) if file.metadata()?.len() > 0 || !leads_to(rt, name, &file)? => Ok(None),
         Ok(()) => Ok(Some(file)),
     }
 }
 
-/// Whether a name is one that a new file may have.
-fn is_of_new_file(name: &str) -> bool {
-    let number = name.rsplit_once(NEW_FILE).map(|(_, number)| number);
-    number.is_some_and(|number| number.parse::<usize>().is_ok())
+/// Sees to it that a new file may be put in this place: it has a name, and none of a new file.
+fn look_at_place(place: &str) -> io::Result<()> {
+    if place.is_empty() || place.ends_with('/') {
+        return Err(io::Error::other("it names no file"));
+    }
+    let number = place.rsplit_once(NEW_FILE).map(|(_, number)| number);
+    if number.is_some_and(|number| number.parse::<usize>().is_ok()) {
+        return Err(io::Error::other("names that end in .exchange-N are for new files"));
+    }
+    Ok(())
 }
 
 /// Has the disk keep the name of a file that is new in its folder.
@@ -151,7 +150,10 @@ fn make_beside(
 ) -> io::Result<(File, String)> {
     for number in 0..MAX_NAMES {
         let name = format!(in rt.alloc(); "{}{NEW_FILE}{number}", file_id.as_str())?;
-        match make_new(rt, apart, name.as_str()) {
+        if is_used(rt, apart, name.as_str())? {
+            continue;
+        }
+        match make_new(rt, name.as_str()) {
             Ok(Some(file)) => return Ok((file, name)),
             Err(error) if error.kind() == ErrorKind::PermissionDenied => {
                 return Err(io::Error::other("no new file can be made in its folder"));
@@ -172,13 +174,62 @@ fn lock_alone(file: &File) -> io::Result<()> {
     }
 }
 
-/// The same of the file of this name. Another may have taken its place before it was locked.
-fn lock_named(rt: &HostRuntime, name: &str, file: &File) -> io::Result<()> {
+/// The same, and whether this name leads to it still: another may have taken its place before.
+fn lock_named(rt: &HostRuntime, name: &str, file: &File) -> io::Result<bool> {
     lock_alone(file)?;
-    if leads_to(rt, name, file)? {
-        return Ok(());
+    leads_to(rt, name, file)
+}
+
+/// The file of a name, to be read, and written after its end, and whether it was made for that.
+fn open_or_make(rt: &HostRuntime, name: &str) -> io::Result<(File, bool)> {
+    match OpenOptions::new().read(true).append(true).open(rt, name) {
+        Err(error) if error.kind() == ErrorKind::NotFound => {}
+        opened => return Ok((opened?, false)),
+    }
+    let place = followed(rt, name)?;
+    let made = OpenOptions::new()
+        .read(true)
+        .append(true)
+        .create_new(true)
+        .open(rt, &place)?;
+    Ok((made, true))
+}
+
+/// The same, kept from other programs that ask for it. What another has put in its place, or
+/// removed, before it was locked is opened again.
+fn open_alone(rt: &HostRuntime, name: &str) -> io::Result<(File, bool)> {
+    for _ in 0..MAX_TURNS {
+        match open_or_make(rt, name) {
+            Ok((file, is_made)) if lock_named(rt, name, &file)? => return Ok((file, is_made)),
+            Err(error) if error.kind() != ErrorKind::AlreadyExists => return Err(error),
+            _ => {}
+        }
     }
     Err(io::Error::other("another program writes it"))
+}
+
+/// Removes a file that is locked, if nothing is in it and this name leads to it still.
+fn remove_empty(rt: &HostRuntime, name: &str, file: &File) -> io::Result<()> {
+    let place = followed(rt, name)?;
+    if file.metadata()?.len() == 0 && leads_to(rt, place.as_str(), file)? {
+        fs::remove_file(rt, place.as_str())?;
+    }
+    Ok(())
+}
+
+/// What a file holds, and its name. With `syncs` the disk has to keep that.
+fn read_held(
+    rt: &HostRuntime,
+    name: &str,
+    file: &mut File,
+    syncs: bool,
+) -> io::Result<(String, Vec<u8>)> {
+    if syncs {
+        sync_name(rt, followed(rt, name)?.as_path())?;
+    }
+    let mut held = Vec::new(rt.alloc());
+    file.read_to_end(&mut held)?;
+    Ok((String::from_str(rt.alloc(), name)?, held))
 }
 
 /// Empties a plain file, and keeps it from other programs that ask for it, as long as it is open.
@@ -193,8 +244,10 @@ pub(crate) fn empty_alone(file: &File) -> io::Result<()> {
 /// The file of a name, kept from other programs that ask for it as long as it is open.
 fn lock_at(rt: &HostRuntime, name: &str) -> io::Result<File> {
     let file = OpenOptions::new().write(true).open(rt, name)?;
-    lock_named(rt, name, &file)?;
-    Ok(file)
+    if lock_named(rt, name, &file)? {
+        return Ok(file);
+    }
+    Err(io::Error::other("another program writes it"))
 }
 
 /// Puts a new file that the disk has in its place, unless another program has come to write what
@@ -243,25 +296,24 @@ impl OutputFile {
         ensures { IfOk result (λ opened.
             (opened.0.sent.sent ≡ opened.1.items) × (opened.0.named ≡ name.now)) }
     {
-        let mut held = Vec::new(rt.alloc());
         if let Some(false) = is_file_at(rt, name)? {
-            return Ok((OutputFile::device(rt, name)?, held));
+            return Ok((OutputFile::device(rt, name)?, Vec::new(rt.alloc())));
         }
-        let mut file = OpenOptions::new()
-            .read(true)
-            .append(true)
-            .create(true)
-            .open(rt, name)?;
-        lock_named(rt, name, &file)?;
-        if syncs {
-            sync_name(rt, followed(rt, name)?.as_path())?;
-        }
-        file.read_to_end(&mut held)?;
+        let (mut file, is_made) = open_alone(rt, name)?;
+        let (own, held) = match read_held(rt, name, &mut file, syncs) {
+            Ok(held) => held,
+            Err(error) => {
+                if is_made {
+                    let _ = remove_empty(rt, name, &file);
+                }
+                return Err(error);
+            }
+        };
         let sent = passed(held.as_slice());
         let it = OutputFile {
             sent: TracedFile { file, sent },
             named: passed(name.as_bytes()),
-            opened: OutputTarget::Held(String::from_str(rt.alloc(), name)?),
+            opened: OutputTarget::Held { name: own, is_made },
             syncs,
             failure: None,
         };
@@ -283,9 +335,7 @@ impl OutputFile {
             None => None,
         };
         let file_id = followed(rt, name)?;
-        if is_of_new_file(file_id.as_str()) {
-            return Err(io::Error::other("names that end in .exchange-N are for new files"));
-        }
+        look_at_place(file_id.as_str())?;
         let (file, new) = make_beside(rt, apart, &file_id)?;
         if let Some(permissions) = permissions {
             let _ = file.set_permissions(permissions);
@@ -309,7 +359,7 @@ impl OutputFile {
         Ok(())
     }
 
-    /// What has gone to it. It is let go, and a new file with it.
+    /// What has gone to it. It is let go, and with it what was made and isn't wanted.
     pub(crate) fn close(self, rt: &HostRuntime) -> ClosedFile
         ensures { (result.sent ≡ self.sent.sent) × (result.named ≡ self.named)
             × (result.durable ≡ false) }
@@ -336,11 +386,15 @@ impl OutputFile {
         (closed, end)
     }
 
-    /// Lets go of a new file.
+    /// Lets go of a new file, and of one that was made for a record where nothing is in it.
     fn forget(&self, rt: &HostRuntime) {
-        if let OutputTarget::New { name, .. } = &self.opened {
-            let _ = fs::remove_file(rt, name.as_str());
-        }
+        let _ = match &self.opened {
+            OutputTarget::New { name, .. } => fs::remove_file(rt, name.as_str()),
+            OutputTarget::Held { name, is_made } if *is_made => {
+                remove_empty(rt, name.as_str(), &self.sent.file)
+            }
+            _ => Ok(()),
+        };
     }
 
     /// Syncs it, and renames a new file into its place, so that its name leads to it. Where that
@@ -357,7 +411,7 @@ impl OutputFile {
     fn persist_named(&self, rt: &HostRuntime) -> io::Result<()> {
         match &self.opened {
             OutputTarget::Device => Ok(()),
-            OutputTarget::Held(name) => {
+            OutputTarget::Held { name, .. } => {
                 self.sent.file.sync_all()?;
                 if leads_to(rt, name.as_str(), &self.sent.file)? {
                     return Ok(());

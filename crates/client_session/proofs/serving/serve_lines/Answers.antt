@@ -12,7 +12,7 @@ front_of-front-requires-clause-found g c = front_still c.in_ok-found.found _ _ c
 pub loop-found-init : goal.loop-found-init
 loop-found-init g c =
     let none = ap (λ h. h.reads) c.new-input.ensures in
-    (λ told. Serving-none _ _ _ c.new-input.result _ (ap (λ h. h.pending) c.new-input.ensures) none c.requires, gives_none none (omega arith), tells_nothing _)
+    (λ told. Serving-none _ _ _ c.new-input.result _ (ap (λ h. h.pending) c.new-input.ensures) c.requires, gives_none none (omega arith), tells_nothing _)
 
 pub returns-in_err-found : goal.returns-in_err-found
 returns-in_err-found g c =

@@ -16,7 +16,7 @@ returns-in_err-take_lines-clause-err g c =
     let p = err_from_is_err_and c.from_residual-in_err-take_lines.result c.from_residual-in_err-take_lines.ensures.1 in
     rw (p.1, p.2)
     (fails _ _ _ _ _ _ (stopped_in_lines _ _ _ c.args.input.now c.skip.new.self c.take_lines.new.input _ c.args.n c.args.count _ _ c.requires.found.0
-    c.requires.found.1 c.requires.means c.skip.ensures.pending c.skip.ensures.reads c.in_err-take_lines.ensures.err))
+    c.requires.found.1 c.requires.means c.skip.ensures.pending c.in_err-take_lines.ensures.err))
 
 pub returns-in_err-text-clause-asks : goal.returns-in_err-text-clause-asks
 returns-in_err-text-clause-asks g c =
@@ -37,14 +37,14 @@ pub returns-clause-ok : goal.returns-clause-ok
 returns-clause-ok g c =
     let first = c.in_ok-text.ensures.items ∙ ap (take (c.args.n + 1)) c.pending.ensures.bytes in
     (batch_done c.submit.result _ _ c.args.input.now c.skip.new.self c.take_lines.new.input _ _ c.args.n c.args.count _ c.take_lines.new.text.items _ _
-    c.requires.found.0 c.requires.found.1 c.requires.means c.skip.ensures.pending first c.in_ok-take_lines.ensures.ok c.skip.ensures.reads
+    c.requires.found.0 c.requires.found.1 c.requires.means c.skip.ensures.pending first c.in_ok-take_lines.ensures.ok
     c.as_slice-text.ensures.value c.submit.ensures.done).0
 
 pub returns-clause-err : goal.returns-clause-err
 returns-clause-err g c =
     let first = c.in_ok-text.ensures.items ∙ ap (take (c.args.n + 1)) c.pending.ensures.bytes in
     (batch_done c.submit.result _ _ c.args.input.now c.skip.new.self c.take_lines.new.input _ _ c.args.n c.args.count _ c.take_lines.new.text.items _ _
-    c.requires.found.0 c.requires.found.1 c.requires.means c.skip.ensures.pending first c.in_ok-take_lines.ensures.ok c.skip.ensures.reads
+    c.requires.found.0 c.requires.found.1 c.requires.means c.skip.ensures.pending first c.in_ok-take_lines.ensures.ok
     c.as_slice-text.ensures.value c.submit.ensures.done).1
 
 pub returns-clause-asks : goal.returns-clause-asks

@@ -37,7 +37,7 @@ loop-preserved g c =
     let line = rw c.in-Some.is at c.in_ok-n.ensures.line in
     let grows = c.in_ok-extend_from_slice.ensures.items ∙ ap (λ l. c.loop.text.items ++ take (k + 1) l) c.pending.ensures.bytes in
     let less = fuel_skip mid c.skip.new.self k c.skip.ensures.pending c.skip.ensures.reads line.0.0 in (
-      LinesTaken-line _ _ _ mid _ _ _ _ _ k got line.0 line.1 grows c.skip.ensures.pending c.skip.ensures.reads,
+      LinesTaken-line _ _ _ mid _ _ _ _ _ k got line.0 line.1 grows c.skip.ensures.pending,
       omega (arith, less, c.in_ok-n.ensures.fuel, c.loop.invariant.1),
       rw c.skip.ensures.reads (gives_more c.loop.invariant.2 (rw c.in-Some.is at c.in_ok-n.ensures.asks)),
     )

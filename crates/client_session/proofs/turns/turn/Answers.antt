@@ -8,7 +8,7 @@ use Rattle.client_session.proofs.turns.turn.Goals as goal
 pub returns-in_ok-answer-in-None-clause-ok : goal.returns-in_ok-answer-in-None-clause-ok
 returns-in_ok-answer-in-None-clause-ok g c =
     alone_taken _ c.args.input.now c.skip.new.self _ _ c.args.front.length c.args.front.command _ _ c.requires.found.0 c.requires.found.1 c.requires.found.2
-    c.in-None.ensures c.skip.ensures.pending c.skip.ensures.reads (λ text. rw c.in_ok-answer-in-None.was at c.answer.ensures.done text) c.ends.ensures
+    c.in-None.ensures c.skip.ensures.pending (λ text. rw c.in_ok-answer-in-None.was at c.answer.ensures.done text) c.ends.ensures
 
 pub returns-in_ok-answer-in-None-clause-fuel : goal.returns-in_ok-answer-in-None-clause-fuel
 returns-in_ok-answer-in-None-clause-fuel g c = fuel_skip c.args.input.now c.skip.new.self c.args.front.length c.skip.ensures.pending c.skip.ensures.reads
