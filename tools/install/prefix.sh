@@ -11,10 +11,10 @@ fail() {
     exit "$status"
 }
 
-if [ $# -gt 1 ] || [[ ${1-} == -* ]]; then
+if [ $# -gt 1 ] || [[ ${1-} == -* ]] || [ -z "${1-.}" ]; then
     fail 2 "the words are: $(basename "$0" .sh) [PREFIX]"
 fi
-prefix=${1:-${HOME:?}/.local}
+prefix=${1-${HOME:?}/.local}
 [[ $prefix == /* ]] || prefix=$PWD/$prefix
 if [ -d "$prefix" ]; then
     prefix=$(cd "$prefix" && pwd)

@@ -411,6 +411,8 @@ def try_home(room):
             "a program at home", "b'bbbbbbbb'\n", "python3", "-c", program, env=env, cwd=room
         )
         expect("no way for it is said", "PYTHONPATH" not in told, told)
+    install("install into a folder without a name", 2, "", env=env)
+    install("uninstall from a folder without a name", 2, "", script="uninstall", env=env)
     told = install("uninstall without a home", 1, script="uninstall", env={**env, "HOME": ""})
     expect("no folder is taken for it", "/.local" not in told, told)
     install("uninstall at home", 0, script="uninstall", env=env)
