@@ -329,6 +329,19 @@ def is_page(text):
         return [texts.try_links(page), texts.try_document(page)] == [(2, 0), (1, 0)]
 
 
+def is_comment(words):
+    """Whether a crate may have this comment, beside code of its own and of another crate."""
+    with tempfile.TemporaryDirectory() as room, contextlib.redirect_stdout(io.StringIO()):
+        for name, text in (
+            ("one", f"//! {words}\nuse other::Thing;\npub enum One {{\n    Two,\n}}\n"),
+            ("other", "pub struct Thing;\nimpl Thing {\n    pub fn make() {}\n}\n"),
+        ):
+            os.makedirs(f"{room}/{name}/src")
+            with open(f"{room}/{name}/src/lib.rt", "w") as file:
+                file.write(text)
+        return texts.try_comments("one", room) == (1, 0)
+
+
 def is_named(name=None, old=None, new=None):
     """Whether all files name one test command, where one of them has another text."""
     with tempfile.TemporaryDirectory() as room, contextlib.redirect_stdout(io.StringIO()):
@@ -682,6 +695,15 @@ CASES = [
             ]
         ],
     ),
+    *[
+        (is_comment, (right,), [(it,) for it in others])
+        for right, *others in (
+            ("[`One`]", "[`Two`]", "[`one`]", "[`one`](crate::Two)", "One"),
+            ("[`One::Two`]", "[`One::Three`]", "[`Thing::Two`]", "[`Other::Two`]"),
+            ("[`make`](other::Thing::make)", "[`make`](other::make)", "[`make`]"),
+            ("`src/lib.rt` of `other`", "`src/main.rt` of `other`", "`src/lib.rt` of `none`"),
+        )
+    ],
     (
         is_named,
         (),

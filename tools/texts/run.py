@@ -16,13 +16,16 @@ lines after it. It is run too, and has to end well.
 Each link of a document has to lead to a file or folder of the repository, and where it names a
 heading there, to one. What a link to source code shows, as
 [`split`](../crates/euler_split/src/halving.rt#L40), has to stand there: a function or a type in
-that line, where it names one. README, CONTRIBUTING and .ci/run have to name one test command. Where
-README names another kit than `rt version` does, that is printed, which is no fault.
+that line, where it names one. What comments of crates link to, as [`Batch`] or
+[`PORTS`](c004_commands::PORTS), has to be declared or imported there, and the files that they name
+have to be there. README, CONTRIBUTING and .ci/run have to name one test command. Where README names
+another kit than `rt version` does, that is printed, which is no fault.
 
 A program that isn't built, or is older than its sources, is proved and built first. Another one is
 tried where EXCHANGE names it: EXCHANGE=other/exchange tools/texts/run.py
 """
 
+import functools
 import os
 import re
 import shutil
@@ -30,6 +33,7 @@ import subprocess
 import sys
 import tempfile
 from collections import namedtuple
+from pathlib import Path
 
 TOP = os.path.dirname(os.path.dirname(os.path.dirname(os.path.abspath(__file__))))
 PROGRAM = os.path.abspath(os.environ.get("EXCHANGE") or f"{TOP}/exchange")
@@ -50,6 +54,17 @@ ANY = "..."
 # and what stands there before a name that is declared.
 SOURCE_LINE = re.compile(r"L[0-9]+")
 DECLARED = r"\b(?:fn|struct|enum|trait) "
+
+# A line of a comment that documents code, its links to names, and the files that it names, perhaps
+# of another crate; and what stands before a name in code, or imports it.
+COMMENT = re.compile(r"\s*//[/!] ?(.*)")
+NAMES = re.compile(r"\[`([^`\]]+)`\](?:\(([^)]+)\))?")
+FILES = re.compile(r"`([\w./-]+\.(?:rt|antt|rows|py|sh|txt|md|rs|c|h))`(?: of `(\w+)`)?")
+NAMED = r"\b(?:fn|struct|enum|trait|const|static|type|mod) "
+IMPORTS = re.compile(r"(?m)^\s*(?:pub(?:\([^)]*\))? )?use ([^;]*);")
+
+# Names that need no import.
+PRELUDE = ("Clone", "Default", "Drop", "From", "Into", "Iterator", "Option", "Result", "Vec")
 
 # Where files name the test command.
 TESTS = {
@@ -150,6 +165,67 @@ def try_links(name):
     for fault in wrong:
         print(f"{name}: WRONG: {fault}")
     return len(links), len(wrong)
+
+
+@functools.cache
+def code_of(crates, crate):
+    """The files of a crate in a folder of crates, without their comments."""
+    return {
+        path: re.sub(r"(?m)^\s*//.*$", "", path.read_text(encoding="utf-8"))
+        for path in sorted(Path(crates, crate, "src").rglob("*.rt"))
+    }
+
+
+def is_in_scope(code, name):
+    """Whether code declares or imports a name."""
+    return (
+        name in PRELUDE
+        or re.search(rf"(?m)^(?! ).*{NAMED}{name}\b", code)
+        or any(re.search(rf"\b{name}\b", names) for names in IMPORTS.findall(code))
+    )
+
+
+def has_name(crates, crate, code, target):
+    """Whether a comment in this code of a crate can name this, as `module::name`,
+    `crate::Type::method` or `other_crate::Type::Variant`."""
+    first, *rest = target.removesuffix("()").split("::")
+    if rest and (first == "crate" or Path(crates, first).is_dir()):
+        files = code_of(crates, crate if first == "crate" else first)
+        code = next(text for path, text in files.items() if path.stem in ("lib", "main"))
+        first, *rest = rest
+    if not rest or not is_in_scope(code, first):
+        return is_in_scope(code, first)
+    member = rf"(?m){NAMED}{rest[-1]}\b|^\s*{rest[-1]}\b\s*[,({{]"
+    for files in (code_of(crates, it).values() for it in os.listdir(crates)):
+        is_declared = any(re.search(rf"{NAMED}{first}\b", text) for text in files)
+        if is_declared and any(re.search(member, text) for text in files):
+            return True
+    return False
+
+
+def has_file(crates, crate, name):
+    """Whether a comment of a crate can name this file: one of the crate, or of the repository."""
+    name = name.replace("NAME", "*")
+    return any(Path(crates, crate).rglob(name)) or any(Path(crates).parent.glob(name))
+
+
+def try_comments(crate, crates=f"{TOP}/crates"):
+    """Looks for the names and the files that comments of a crate link to or name: how many there
+    are, and how many aren't there."""
+    tried = wrong = 0
+    for path, code in code_of(crates, crate).items():
+        for number, line in enumerate(path.read_text(encoding="utf-8").splitlines(), 1):
+            comment = COMMENT.fullmatch(line)
+            text = comment[1] if comment else ""
+            names, files = [*NAMES.finditer(text)], [*FILES.finditer(text)]
+            missing = [
+                *(it[0] for it in names if not has_name(crates, crate, code, it[2] or it[1])),
+                *(it[0] for it in files if not has_file(crates, it[2] or crate, it[1])),
+            ]
+            for what in missing:
+                print(f"{os.path.relpath(path, TOP)}:{number}: WRONG: {what} isn't there")
+            tried, wrong = tried + len(names) + len(files), wrong + len(missing)
+    return tried, wrong
 
 
 def compare_kits():
@@ -295,6 +371,9 @@ def tell(names, trial, what, fault):
 def main():
     names = sys.argv[1:] or documents()
     wrong = tell(names, try_links, "links", "lead nowhere")[1]
+    if not sys.argv[1:]:
+        crates = sorted(os.listdir(f"{TOP}/crates"))
+        wrong += tell(crates, try_comments, "names in comments", "aren't there")[1]
     compare_kits()
     wrong += test_commands()[1]
     if not os.environ.get("EXCHANGE"):

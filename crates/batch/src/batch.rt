@@ -14,8 +14,8 @@ use std::alloc::{AllocError, Global};
 use std::marker::Model;
 use std::slice;
 
-/// A list of transfers, numbered from 0: at most [`MAX_TRANSFERS`] of them, all of them between
-/// blocks of the widest shape. Equal transfers are different members of the list.
+/// A list of transfers, numbered from 0: at most [`MAX_TRANSFERS`](crate::MAX_TRANSFERS) of them,
+/// all between blocks of the widest shape. Equal transfers are different members of the list.
 #[derive(Drop)]
 pub struct Batch {
     transfers: Vec<Transfer>,

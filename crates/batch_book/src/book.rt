@@ -138,7 +138,7 @@ impl Book<MemoryHistory> {
 }
 
 impl<H: EntryLog> Book<H> {
-    /// The same, with this history, which is empty.
+    /// A book over this rack, with no batches, whose entries go to this history. It is empty.
     pub fn with(alloc: Global, rack: Rack, history: H) -> Result<Book<H>, (Rack, H, AllocError)>
         requires empty { H.pushed history ≡ [] }
         requires none { H.durable history ≡ [] }
@@ -366,7 +366,7 @@ impl<H: EntryLog> Book<H> {
         Ok(reply)
     }
 
-    /// The same as [`try_apply`](Book::try_apply) for a history that loses no entry, as
+    /// Answers a call as [`try_apply`](Book::try_apply) does, for a history that loses no entry, as
     /// [`MemoryHistory`] and [`NullHistory`](crate::NullHistory).
     pub fn apply<R: Threads + Sync, P: ConfigPort, W: WireMaker + Sync, G: Gate + Sync, N: Notice>(
         &mut self,

@@ -5,7 +5,7 @@
 //! the book holds, and which reply and which next machine each call of a session has
 //! (`IsMachineStep` of `specs/Machine.antt`). The type keeps that the history is legal, which means
 //! that each reply in it is one that the machine may give there, and that batches and memories are
-//! where the history leads. A history leads to one machine (`laws::replays`).
+//! where the history leads.
 //!
 //! The entries go where the book's [`EntryLog`] puts them: [`MemoryHistory`] has them in memory,
 //! [`NullHistory`] is known to contracts alone, and others may write them, many at a time. Where

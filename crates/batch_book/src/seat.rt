@@ -32,7 +32,7 @@ pub(crate) struct SeatInner<L: ExchangeName> {
 }
 
 impl<L: ExchangeName> SeatInner<L> {
-    /// The same where the record of its calls is broken.
+    /// This seat, once the record of its calls is broken.
     pub(crate) fn break_off(self) -> SeatInner<L>
         ensures access { result.access ≡ self.access }
         ensures own { result.own ≡ self.own }

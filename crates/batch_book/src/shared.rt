@@ -198,7 +198,7 @@ impl<L: ExchangeName, P: ConfigPort, W: WireMaker + Sync, G: Gate + Sync, H: His
         }
     }
 
-    /// The same where no entry can be lost. The reply may be told at once.
+    /// Makes a call where no entry can be lost. Its reply may be told at once.
     pub fn call<R: Threads + Wait + Sync>(&self, rt: &R, seat: &mut Seat<L>, call: Call) -> Reply
         requires exchange { seat.old.exchange ≡ Some self.now.word }
         requires sure { H.loses ≡ false }

@@ -33,7 +33,7 @@ impl SharedBatch {
         })
     }
 
-    /// The same batch for one more holder. It takes no memory.
+    /// Shares this batch with one more holder. It takes no memory.
     pub(crate) fn share(&self) -> Result<SharedBatch, AllocError>
         ensures { IfOk result (λ shared. shared ≡ self.now) }
     {

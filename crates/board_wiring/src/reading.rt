@@ -116,11 +116,11 @@ fn modules(lines: &[u8], count: usize) -> Result<(Board, &[u8]), WiringFault>
     Ok((board, rest))
 }
 
-/// Reads a wiring's text: the line `wiring N`, for N from 1 to [`JOINED_MODULES`], and then N lines
-/// `module M link 0 at A link 3 at B`, by rising numbers M below [`JOINED_MODULES`]. A and B are
-/// links of the switch, below [`PORTS`](c004_commands::PORTS), and none of them stands twice. In
-/// the place of `at A` or `at B` may stand `none`. Nothing stands after these lines. It takes no
-/// memory.
+/// Reads a wiring's text: the line `wiring N`, for N from 1 to
+/// [`JOINED_MODULES`](crossbar::JOINED_MODULES), and then N lines `module M link 0 at A link 3 at
+/// B`, by rising numbers M below that. A and B are links of the switch, below
+/// [`PORTS`](c004_commands::PORTS), and none of them stands twice. In the place of `at A` or `at B`
+/// may stand `none`. Nothing stands after these lines. It takes no memory.
 ///
 /// Gives the board whose wiring the text denotes, or the text's first line at fault. Takes time
 /// that grows with the length of the text.

@@ -20,7 +20,7 @@ abbrev pub summing : ℕ → List ℕ → ℕ
 summing sum [] = sum
 summing sum (b ∷ bytes) = summing ((sum * 2891336453 + b) % 4294967296) bytes
 
--- That of the lines of an entry that follows n others. It begins with their number, so that an
+-- The sum of the lines of an entry that follows n others. It begins with their number, so that an
 -- entry has another sum at another place.
 abbrev pub sum_at : ℕ → List ℕ → ℕ
 sum_at n bytes = summing (n % 4294967296) bytes

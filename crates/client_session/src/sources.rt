@@ -6,7 +6,7 @@ ghost use Rattle.client_session.specs.Sources.{of_book, of_run};
 use refusals::Refusal;
 use setting_runner::RunRefusal;
 
-/// That of a call which the book refused.
+/// The refusal of a call which the book refused.
 pub(crate) fn of_book(refusal: batch_book::BookRefusal) -> Refusal
     ensures { result ≡ of_book refusal }
 {
@@ -22,8 +22,8 @@ pub(crate) fn of_book(refusal: batch_book::BookRefusal) -> Refusal
     }
 }
 
-/// That of a run which was refused. [`Refusal::Shape`] is that of a plan with a module or a block
-/// that the rack hasn't.
+/// The refusal of a run that wasn't begun: [`Refusal::Shape`] where its plan has a module or a
+/// block that the rack hasn't.
 pub(crate) fn of_run(refusal: RunRefusal) -> Refusal
     ensures { result ≡ of_run refusal }
 {

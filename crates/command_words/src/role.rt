@@ -35,7 +35,7 @@ pub enum Role {
     PortOut,
 }
 
-/// The same, of which contracts see nothing: it is only displayed.
+/// A role of which contracts see nothing, since it is only displayed.
 #[derive(Drop)]
 pub struct DisplayedRole(pub(crate) Role);
 

@@ -11,8 +11,7 @@
 //! A reset, the joins of some pairs and a settle turn any switch into that of the pairs
 //! (`laws::setting`). From the switch of the old pairs, cuts of those that go, joins of those that
 //! come and a settle do (`laws::change`; `specs/Pairs.antt`). A [`BoardWiring`] has at most 16
-//! modules, and no link of the switch twice. No command of a change on it, and none of a setting
-//! after its first, is a reset or names a link that no module is on (`laws::others`).
+//! modules, and no link of the switch twice.
 //!
 //! The commands and their effects are those of the INMOS IMS C004 data sheet. Where the sheet is
 //! silent, the choice is this project's: when the switch is ready, that a new connection replaces

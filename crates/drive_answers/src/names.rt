@@ -4,9 +4,9 @@ ghost use Rattle.drive_answers.specs.Ways.{how_many, names_of};
 /// The names of the ports of a rack's switches.
 #[derive(Clone, Copy)]
 pub struct PortNames<'a> {
-    /// That of the one switch, or of the first of two.
+    /// The port's name of the one switch, or of the first of two.
     pub port: &'a str,
-    /// That of the second, where there are two.
+    /// The port's name of the second switch, where there are two.
     pub port_b: Option<&'a str>,
 }
 

@@ -71,7 +71,7 @@ impl PortTrace {
         }
     }
 
-    /// Those of these names were opened.
+    /// Takes down that the ports of these names were opened.
     pub fn open(&mut self, names: PortNames<'_>)
         ensures { self.new ≡ opened_by (names_of names.entry) self.old }
     {

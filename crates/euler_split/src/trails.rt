@@ -94,7 +94,7 @@ fn walk_all_from(untaken: &mut Pairs, left_half: &mut Masks, start: usize, steps
     }
 }
 
-/// Those of the pairs that go to the left half: at each link half of its pairs, rounded up or down.
+/// The pairs that go to the left half: at each link half of its pairs, rounded up or down.
 /// All pairs are taken out.
 pub(crate) fn left_of(pairs: &mut Pairs, steps: &mut Steps) -> Masks
     ensures halved { AreHalved (has_pair pairs.old.zero) (has_pair result) }

@@ -60,7 +60,7 @@ fn refusal<R: Threads + Sync>(rt: &R, book: &mut Book, call: Call) -> Option<Boo
     refusal_of(&reply)
 }
 
-/// The same between the marks.
+/// One call of session 0 between the marks, and why it was refused, if it was.
 fn refusal_between<R: Eprint + Threads + Sync>(
     rt: &R,
     book: &mut Book,
@@ -102,7 +102,8 @@ fn settle<R: AllocGlobal + Threads + Sync>(rt: &R, book: &mut Book) -> Option<Bo
     refusal(rt, book, call)
 }
 
-/// The same between the marks.
+/// Settles the row's batch by the plan of another one between the marks, and says why that was
+/// refused.
 fn settle_between<R: AllocGlobal + Eprint + Threads + Sync>(
     rt: &R,
     book: &mut Book,

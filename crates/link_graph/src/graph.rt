@@ -87,7 +87,7 @@ impl LinkGraph {
         ))
     }
 
-    /// The same of a transfer that there is.
+    /// The two links of a transfer that there is.
     pub fn ends_of(&self, t: usize) -> (Link, Link)
         requires { t < length self.now }
         ensures { option_map (λ x. (start_link x, answer_link x)) (slice_get self.now t)

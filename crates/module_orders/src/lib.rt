@@ -7,8 +7,8 @@
 //! (`orders_text` of `specs/OrdersText.antt`).
 //!
 //! Modules that obey, setting by setting, in whatever order words pass within a setting, leave each
-//! destination with the words that its source had, and all else as it was; without any one of the
-//! copies they may leave other words (`laws::obeying`, over `specs/Obeying.antt`).
+//! destination with the words that its source had, and all else as it was (`laws::obeying`, over
+//! `specs/Obeying.antt`).
 #![tactic(auto)]
 
 mod changed;

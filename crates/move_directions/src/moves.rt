@@ -51,8 +51,8 @@ impl Listed for Move {
     }
 }
 
-/// A list of moves, numbered from 0: at most [`MAX_TRANSFERS`] of them, all of them between blocks
-/// of the widest shape. Equal moves are different members of the list.
+/// A list of moves, numbered from 0: at most [`MAX_TRANSFERS`](batch::MAX_TRANSFERS) of them, all
+/// between blocks of the widest shape. Equal moves are different members of the list.
 #[derive(Drop)]
 pub struct MoveList {
     moves: Vec<Move>,

@@ -98,7 +98,7 @@ impl Answerer {
         self.take_byte(store, byte)
     }
 
-    /// The same, without what came before.
+    /// Takes the next byte of a packet, which what came before doesn't complete.
     fn take_byte<S: WordStore>(
         &mut self,
         store: &mut S,

@@ -100,7 +100,7 @@ impl Answer {
         })
     }
 
-    /// The same answer, with what is known of the schedule that it refuses.
+    /// This answer, with what is known of the schedule that it refuses.
     pub fn with_validity(mut self, validity: Validity) -> Answer
         ensures { result ≡ self }
     {

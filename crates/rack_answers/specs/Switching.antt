@@ -77,10 +77,10 @@ abbrev pub TellsSwitch : Option BoardWiring → (wide : Bool) → List Transfer 
 TellsSwitch board wide batch settings printed =
     (printed.text ≡ settings_bytes_text board wide batch settings) × (printed.status ≡ DONE)
 
--- Those of a schedule from this source, or a refusal, each under its status. Of a board all links
--- that the batch needs are there, and the lines are those of its wiring, whatever free links stand
--- in it for what is left out. Another rack has two switches if that is said, or if the batch needs
--- them. What isn't there is refused after faults of the batch's text, and before those of a
+-- The lines of a schedule from this source, or a refusal, each under its status. Of a board all
+-- links that the batch needs are there, and the lines are those of its wiring, whatever free links
+-- stand in it for what is left out. Another rack has two switches if that is said, or if the batch
+-- needs them. What isn't there is refused after faults of the batch's text, and before those of a
 -- schedule.
 pub data IsSwitched (source : ScheduleSource (List ℕ)) (has_two : Bool) (board : Option Board)
     (batch : List ℕ) (printed : Printed) : Type 0 where

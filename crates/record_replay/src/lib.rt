@@ -5,8 +5,7 @@
 //! what is first wrong, where, and the line that is due there (`IsRecordError`).
 //!
 //! [`answer_replay`] is the answer of the command `replay`: the image to which the entries lead, or
-//! a refusal (`IsReplayAnswer` of `specs/ReplayAnswers.antt`). There is one such answer, and one
-//! thing to report beside it.
+//! a refusal (`IsReplayAnswer` of `specs/ReplayAnswers.antt`).
 //!
 //! The record that `serve`, `host` or `talk` leaves is answered by the words to which its calls
 //! led, and it has each call whose reply a session got (`laws::record_is_answered`).

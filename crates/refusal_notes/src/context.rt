@@ -19,7 +19,7 @@ pub struct NamedText<'a> {
 /// The rack of which the head of a record has to be.
 #[derive(Clone, Copy)]
 pub enum OpeningRack {
-    /// That of sessions that go on with the record.
+    /// The rack of sessions that go on with the record.
     Resumed,
     /// One on which the record is replayed, whose words are 0.
     Zeros,

@@ -4,8 +4,8 @@
 //! session. They are handed the refusal itself and the texts that it is of, and change no answer.
 //! What they give begins with `exchange: ` and ends with a line feed (`IsWholeLine` of
 //! `specs/Told.antt`), and they give nothing for lack of memory. No contract says which words stand
-//! between: they are compared with rows (`notes.rows`), and with those of a second implementation
-//! (`notes.py` of `tools/hostile`).
+//! between: they are compared with rows (`rows/notes.rows`), and with those of a second
+//! implementation (`tools/hostile/notes.py`).
 //!
 //! A refusal has the number of the line that is wrong, or of the transfer. That line alone is
 //! compared with what is wanted there (`forms.rt`, `differences.rt`). Where settings of a schedule,

@@ -40,8 +40,9 @@ pub fn second_line(alloc: Global, refusal: Refusal, texts: RefusalContext<'_>) -
     }
 }
 
-/// The same beside a refusal that a session is told, on a rack of the shape that this word says.
-/// What it sent is the line that was refused, or all lines of its batch with their line feeds.
+/// The second line beside a refusal that a session is told, on a rack of the shape that this word
+/// says. What it sent is the line that was refused, or all lines of its batch with their line
+/// feeds.
 pub fn session_line<'a>(
     alloc: Global,
     refusal: Refusal,

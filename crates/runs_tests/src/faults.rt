@@ -199,7 +199,7 @@ pub fn words_of_1(moved: u16) -> &'static [u32] {
     }
 }
 
-/// The same of module 2.
+/// The words of module 2 after so many of them moved.
 pub fn words_of_2(moved: u16) -> &'static [u32] {
     match moved {
         0 => &[0x0002_0000, 0x0002_0001],

@@ -149,7 +149,7 @@ fn ends_on<R: AllocGlobal + Threads + Sync, P: ConfigPort, W: WireMaker + Sync, 
     is_ended && has_words && is_told
 }
 
-/// The same of the case's rack, where its plan is there.
+/// Runs the plan on the case's rack, and gives whether it ends as the case says.
 pub fn ends<R: AllocGlobal + Threads + Sync, P: ConfigPort, W: WireMaker + Sync, G: Gate + Sync>(
     rt: &R,
     plant: &mut Plant<P, W, G>,

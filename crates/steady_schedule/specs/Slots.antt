@@ -52,7 +52,7 @@ abbrev pub StandsIn : List ℕ → List ℕ → List ℕ → ℕ → ℕ → ℕ
 StandsIn totals remaining slots d u v =
     (i : ℕ) × IsWritten totals remaining u v i × (slot totals slots u v i ≡ d)
 
--- The same while the matching is written: just joined pairs of the first n modules have each number
+-- Numbers while a matching is written: just joined pairs of the first n modules have each number
 -- from `first` on.
 pub record AreNumberedFrom (zero : List (Option ℕ)) (first n : ℕ) (totals remaining slots : List ℕ)
     (next : ℕ) : Type 0 where

@@ -16,7 +16,7 @@
 //! for such schedules. Where fewer steps may be enough, a fifth is made of other steps: of each the
 //! matching is sought by the length that uses up the most pairs and idle links, and held as long as
 //! it can be. The schedule with the fewest steps is taken. No contract says so. Of small batches
-//! drawn at random at least 93 in 100 have the fewest changes, and all of them together at most 2
+//! drawn at random at least 94 in 100 have the fewest changes, and all of them together at most 2
 //! in 100 more than the fewest (`bench/planning/told.py`).
 //!
 //! Some counts serve any schedule of a batch: how often it changes the switch ([`count_changes`]);

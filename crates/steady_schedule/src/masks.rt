@@ -24,7 +24,7 @@ pub(crate) struct TrialOrders {
     pub(crate) looks: usize,
 }
 
-/// Those of all plans.
+/// The orders in which links are tried, of each plan.
 pub(crate) const TRIAL_ORDERS: [TrialOrders; 5] = [
     TrialOrders {
         zero: TrialOrder::Rising,

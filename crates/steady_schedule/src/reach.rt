@@ -15,7 +15,7 @@ use link_graph::{Masks, lowest};
 pub(crate) struct Holdable {
     /// For each link those of the other end with which it has so many transfers.
     pub(crate) near: Masks,
-    /// Those of them with which it has just so many: such a pair is used up then. No contract says
+    /// The partners with which it has just so many: such a pair is used up then. No contract says
     /// so.
     pub(crate) just: Masks,
     /// The links that have more transfers than there are settings left then.

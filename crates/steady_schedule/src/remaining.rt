@@ -40,7 +40,8 @@ impl EndCounts {
 /// How many transfers of each pair of links wait for a setting.
 #[derive(Clone, Copy)]
 pub(crate) struct Remaining {
-    /// Those of link 0 of module u and link 3 of module v are at the place `u * MAX_MODULES + v`.
+    /// Transfers of link 0 of module u with link 3 of module v are at the place
+    /// `u * MAX_MODULES + v`.
     pub(crate) counts: [u32; PAIRS],
     pub(crate) zero: EndCounts,
     pub(crate) three: EndCounts,

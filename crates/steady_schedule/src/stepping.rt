@@ -67,7 +67,7 @@ fn zero_room(remaining: &Remaining, matching: &Matching, most: usize, module: us
     }
 }
 
-/// The same of a link 3, whose pair counts at its link 0.
+/// How long a link 3 may be held, whose pair counts at its link 0.
 fn three_room(remaining: &Remaining, matching: &Matching, most: usize, module: usize) -> usize
     requires low { «module» < MAX_MODULES }
     requires some { 0 < most }

@@ -22,7 +22,7 @@ struct SwitchLine<I, O> {
 }
 
 impl<I, O> SwitchLine<I, O> {
-    /// That of a switch that hasn't come up.
+    /// The line to a switch that hasn't come up.
     fn new(stream: SwitchStream<I, O>) -> SwitchLine<I, O>
         ensures { result ≡ record { stream = stream; is_up = false } }
     {

@@ -73,7 +73,7 @@ fn is_standing(standing: &Option<PairList>, pairs: &[Pair]) -> bool
     }
 }
 
-/// The same of the one switch of a rack, where other pairs stand, or none are known to.
+/// Sets the one switch of a rack, where other pairs stand, or none are known to.
 fn set_one<P: ConfigPort>(
     port: &mut P,
     wiring: Wiring,
@@ -102,8 +102,8 @@ fn set_one<P: ConfigPort>(
     Ok(())
 }
 
-/// The same of both switches of a wider rack: the replies of the first are judged before the second
-/// is asked.
+/// Sets both switches of a wider rack: the replies of the first are judged before the second is
+/// asked.
 fn set_both<P: ConfigPort>(
     port: &mut P,
     standing: &Option<PairList>,

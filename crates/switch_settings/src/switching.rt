@@ -60,7 +60,7 @@ pub fn configure_switches<P: ConfigPort>(
     configure_both(port, standing, pairs)
 }
 
-/// The same of the one switch of a rack, which is the first.
+/// Configures the one switch of a rack, which is the first.
 fn configure_one<P: ConfigPort>(
     port: &mut P,
     standing: &Option<PairList>,
@@ -86,7 +86,7 @@ fn configure_one<P: ConfigPort>(
     judge_all(Chip::A, Wiring::Both, pairs, &replies)
 }
 
-/// The same of both switches of a wider rack.
+/// Configures both switches of a wider rack.
 fn configure_both<P: ConfigPort>(
     port: &mut P,
     standing: &Option<PairList>,

@@ -92,7 +92,7 @@ fn all_come<R: AllocGlobal + Threads + Sync>(rt: &R, text: &str, rows: &[Arrival
     true
 }
 
-/// The same of a batch of so many equal transfers.
+/// Whether just those of a list come for a batch of so many equal transfers.
 fn all_come_to_equal<R: AllocGlobal + Threads + Sync>(
     rt: &R,
     count: usize,

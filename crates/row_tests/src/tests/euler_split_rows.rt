@@ -50,7 +50,7 @@ fn times_of_some(graph: &LinkGraph) -> [usize; 4]
     ]
 }
 
-/// The same of the row.
+/// How many times some of the row's eight can be halved.
 fn times_in_eight(alloc: Global) -> Option<[usize; 4]> {
     let graph = graph_of_eight(alloc)?;
     Some(times_of_some(&graph))
@@ -93,7 +93,7 @@ fn dealt(alloc: Global, graph: &LinkGraph) -> Option<[usize; 4]>
     ])
 }
 
-/// The same of the row.
+/// What an even split of the row's eight gives to each half.
 fn dealt_in_eight(alloc: Global) -> Option<[usize; 4]> {
     let graph = graph_of_eight(alloc)?;
     dealt(alloc, &graph)

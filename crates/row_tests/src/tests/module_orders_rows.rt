@@ -40,7 +40,7 @@ fn orders_by(
     RackOrders::of(alloc, batch, schedule).ok()
 }
 
-/// The same of texts.
+/// The orders of a batch's text for a schedule's text.
 fn orders_for(alloc: Global, batch: &str, schedule: &str) -> Option<RackOrders> {
     let batch = read(alloc, batch)?;
     let (schedule, certificate) = Schedule::read(alloc, schedule.as_bytes()).ok()?;
@@ -101,7 +101,7 @@ setting 1 link 3 receive block 0
 setting 2 link 0 send copy 0
 ";
 
-/// The same of module 1 alone.
+/// The part of that text of module 1 alone.
 const TURNED_ONE: &str = "\
 modules 1 settings 3
 module 1 copies 1 orders 2

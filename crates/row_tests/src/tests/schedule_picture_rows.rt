@@ -62,7 +62,8 @@ fn changes_by(
     Some((verdict.changes, verdict.partners))
 }
 
-/// The same of texts.
+/// How often a schedule's text changes the switch, and how many partners a link of the batch's text
+/// has.
 fn changes_of(alloc: Global, batch: &str, schedule: &str) -> Option<(usize, usize)> {
     let batch = read(alloc, batch)?;
     let (schedule, certificate) = Schedule::read(alloc, schedule.as_bytes()).ok()?;

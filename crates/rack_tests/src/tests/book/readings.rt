@@ -189,7 +189,7 @@ fn is_read<L: ExchangeName + Send + Sync, R: AllocGlobal + Clock + Threads + Wai
     }
 }
 
-/// The same on a marked rack of three modules.
+/// Whether a run on a marked rack of three modules is read as it goes on.
 fn is_read_of<R: AllocGlobal + Clock + Threads + Wait + Sync>(rt: &R, run: Watched) -> bool {
     match marked(rt.alloc(), "3x1x1") {
         Some(rack) => match ExchangeBlank::new(rt.alloc()) {

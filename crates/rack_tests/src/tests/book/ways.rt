@@ -55,7 +55,7 @@ fn runs_by_two<L: ExchangeName, R: AllocGlobal + Clock + Threads + Wait + Sync>(
     }
 }
 
-/// The same on the row's rack.
+/// Whether runs on the row's rack go by two wires at once.
 fn runs_by_two_of<R: AllocGlobal + Clock + Threads + Wait + Sync>(rt: &R) -> bool {
     match marked(rt.alloc(), "3x2x2") {
         Some(rack) => match ExchangeBlank::new(rt.alloc()) {

@@ -1,4 +1,4 @@
-//! The same faults in a session: what it is told, the history and the words.
+//! Runs that fail or lie, in a session: what it is told, the history and the words.
 
 ghost use Rattle.batch_book.specs.History.{new_book_view};
 ghost use Rattle.batch_book.specs.Naming.{IsNamed};
@@ -79,7 +79,7 @@ fn first_words(moved: u16) -> &'static str {
     }
 }
 
-/// The same of module 2.
+/// The words of block 0 of module 2, where so many were moved.
 fn second_words(moved: u16) -> &'static str {
     match moved {
         0 => "word 00020000\nword 00020001\n",
@@ -168,7 +168,7 @@ fn is_right<L: ExchangeName, R: AllocGlobal + Clock + Threads + Wait + Sync>(
     }
 }
 
-/// The same of a new exchange with this rack.
+/// Whether a session on a new exchange with this rack is told so, and leaves what it has to.
 fn is_served<L: ExchangeName, R: AllocGlobal + Clock + Threads + Wait + Sync>(
     rt: &R,
     blank: ExchangeBlank,

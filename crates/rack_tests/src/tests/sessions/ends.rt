@@ -4,8 +4,8 @@ use super::served::is_served;
 use super::streams::{ALL, AT_ONCE, Full, Script};
 use client_session::ServeFault;
 
-/// The same over a reader that hands out at most so many bytes a call, and fails once after so many
-/// calls.
+/// The script over a reader that hands out at most so many bytes a call, and fails once after so
+/// many calls.
 fn failing_at(script: Script, fails_at: usize, step: usize) -> Script {
     let mut reading = AT_ONCE;
     reading.step = step;
@@ -45,7 +45,8 @@ fn session_ends_by_its_reader(rt: HostRuntime) {
     assert!(rt; is_served(&rt, &failing_at(bye, 1, 4)));
 }
 
-/// The same over a writer that has room for so many bytes, then does this once, and has room again.
+/// The script over a writer that has room for so many bytes, then does this once, and has room
+/// again.
 fn with_room(script: Script, room: usize, full: Full) -> Script {
     let mut writing = ALL;
     writing.room = room;

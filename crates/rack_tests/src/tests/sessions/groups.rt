@@ -221,7 +221,7 @@ fn is_heard<'a, L: ExchangeName, H: History, R: AllocGlobal + Clock + Threads + 
     has_ended && !hearer.is_wrong && hearer.rest.is_empty()
 }
 
-/// The same at a new exchange over this book.
+/// Whether the client hears what it has to at a new exchange over this book.
 fn hears<'a, L: ExchangeName, H: History + Drop, R: AllocGlobal + Clock + Threads + Wait + Sync>(
     rt: &R,
     blank: ExchangeBlank,

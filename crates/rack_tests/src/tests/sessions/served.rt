@@ -233,7 +233,7 @@ fn is_played<L: ExchangeName, R: AllocGlobal + Clock + Threads + Wait + Sync>(
     entries_of(close(rt.alloc(), office)) == Some(entries) && is_right
 }
 
-/// The same at an exchange on this rack.
+/// Whether both clients' day goes as it has to at an exchange on this rack.
 fn spend<L: ExchangeName, R: AllocGlobal + Clock + Threads + Wait + Sync>(
     rt: &R,
     blank: ExchangeBlank,

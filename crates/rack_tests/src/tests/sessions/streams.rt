@@ -88,21 +88,21 @@ impl Script {
         }
     }
 
-    /// The same where the session ends by this fault.
+    /// This script, where the session ends by this fault.
     pub fn ending(self, fault: ServeFault) -> Script {
         let mut script = self;
         script.fault = Some(fault);
         script
     }
 
-    /// The same over another reader.
+    /// This script, over another reader.
     pub fn reading(self, reading: Reading) -> Script {
         let mut script = self;
         script.reading = reading;
         script
     }
 
-    /// The same over another writer.
+    /// This script, over another writer.
     pub fn writing(self, writing: Writing) -> Script {
         let mut script = self;
         script.writing = writing;

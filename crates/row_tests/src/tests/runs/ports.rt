@@ -417,7 +417,7 @@ fn three_stop(
     }
 }
 
-/// The same in setting 1, at this output, by a port that was sent all and asked for all.
+/// A stop in setting 1, at this output, by a port that was sent all and asked for all.
 fn second_stop(shape: &'static str, manner: Manner, calls: usize, output: u8) -> Row {
     three_stop(shape, manner, calls, 1, StopCause::SwitchDisagrees(output))
 }
@@ -461,8 +461,8 @@ const WIDE: &[(Manner, u8)] = &[
 /// What that row leaves where no word moves.
 const UNMOVED_ACROSS: &[Block<'static>] = &[(0, 0, &[0]), (0, 1, &[0x0100])];
 
-/// The same in setting 1 of three-transfers: A feeds output 2 by input 0 and no other, and B output
-/// 0 by input 2.
+/// What a port does in setting 1 of three-transfers, and the output that is told: A feeds output 2
+/// by input 0 and no other, and B output 0 by input 2.
 const SECOND_WIDE: &[(Manner, u8)] = &[
     (Manner::Answers(6, 2, 0x81), 2),
     (Manner::Answers(6, 2, 0x00), 2),
