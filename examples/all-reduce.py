@@ -3,10 +3,11 @@
 and the sum of all in the end.
 
 In each stage a client's number goes to the module whose own number differs in one bit, and what
-came from there is added to it. Start the host first, at the top of a clone, and then the clients:
+came from there is added to it. Start the host first, and then the clients; at the top of a clone
+the program is ./exchange:
 
     mkfifo {0..15}.in {0..15}.out
-    ./exchange host 16x5x2 {0..15} &
+    exchange host 16x5x2 {0..15} &
     examples/all-reduce.py
 """
 

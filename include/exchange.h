@@ -84,6 +84,11 @@ extern "C" {
 #define EXCHANGE_OF_ORDERS 8
 #define EXCHANGE_NO_CALL 35
 
+/* ---- calls over texts ----
+ *
+ * Each returns EXCHANGE_DONE, EXCHANGE_REFUSED, EXCHANGE_NO_ROOM or EXCHANGE_NO_MEMORY, as said
+ * above. `exchange_why` refuses nothing, and may return EXCHANGE_NO_CALL. */
+
 /* `exchange plan`: a schedule of the batch with as few settings as possible, and its certificate.
  *
  * Takes time that grows with the number of transfers times the logarithm of the uses of the busiest

@@ -6,51 +6,47 @@
 Each text that an edit takes has to stand once in its file.
 """
 
-import glob
-import os
+from __future__ import annotations
+
 import sys
+from collections.abc import Iterator
+from pathlib import Path
 
-TOP = os.path.dirname(os.path.dirname(os.path.abspath(__file__)))
+from harness import REPOSITORY, Report
 
 
-def faults(edit):
-    """What keeps an edit from being made. Its lines are `file: NAME`,
-    `old: TEXT` and `new: TEXT`."""
-    crate, before, after, old = edit.partition("/must-fail/")[0], "", "", None
-    with open(edit, encoding="utf-8") as lines:
-        for line in lines.read().splitlines():
-            word, _, rest = line.partition(":")
-            rest = rest.removeprefix(" ")
-            if word == "file" and os.path.isfile(f"{crate}/{rest}"):
-                with open(f"{crate}/{rest}", encoding="utf-8") as file:
-                    before = after = file.read()
-            elif word == "file":
+def faults(edit: Path) -> Iterator[str]:
+    """What keeps an edit from being made. Its lines are `file: NAME`, `old: TEXT` and
+    `new: TEXT`."""
+    if edit.suffix != ".edit":
+        yield "its name doesn't end in .edit"
+    before = after = old = ""
+    for line in edit.read_text(encoding="utf-8").splitlines():
+        word, _, rest = line.partition(":")
+        rest = rest.removeprefix(" ")
+        if word == "file":
+            file = Path(str(edit).partition("/must-fail/")[0], rest)
+            if file.is_file():
+                before = after = file.read_text(encoding="utf-8")
+            else:
                 yield f"there is no file {rest}"
-            elif word == "old":
-                old = rest
-                if after.count(old) != 1:
-                    yield f"this stands there {after.count(old)} times, and not once: {old}"
-            elif word == "new" and old:
-                after = after.replace(old, rest)
+        elif word == "old":
+            old = rest
+            if after.count(old) != 1:
+                yield f"this stands there {after.count(old)} times, and not once: {old}"
+        elif word == "new" and old:
+            after = after.replace(old, rest)
     if before == after:
         yield "it changes nothing"
 
 
-def main():
-    top = sys.argv[1] if sys.argv[1:] else TOP
-    edits = sorted(
-        it for it in glob.glob(f"{top}/crates/*/must-fail/**", recursive=True) if os.path.isfile(it)
-    )
-    wrong = [f"{edit}: {it}" for edit in edits if not edit.endswith(".md") for it in faults(edit)]
-    wrong += [
-        f"{edit}: its name doesn't end in .edit"
-        for edit in edits
-        if not edit.endswith((".edit", ".md"))
-    ]
-    for it in wrong:
-        print(f"edits: WRONG: {it}")
-    print(f"edits: {len(edits)} edits, {len(wrong)} wrong")
-    sys.exit(1 if wrong or not edits else 0)
+def main() -> None:
+    top = Path(sys.argv[1]) if sys.argv[1:] else REPOSITORY
+    report = Report("edits")
+    for edit in sorted(top.glob("crates/*/must-fail/**/*")):
+        if edit.is_file() and edit.suffix != ".md":
+            report.judge(str(edit.relative_to(top)), [*faults(edit)])
+    report.finish("{tried} edits, {wrong} wrong")
 
 
 if __name__ == "__main__":

@@ -11,17 +11,20 @@ that counts beside it (`insert` of `insert_in_steps`). FILE FUNCTION.. WHAT: REA
 that isn't needed is wrong too.
 """
 
-import collections
-import glob
-import os
+from __future__ import annotations
+
 import re
 import sys
+from collections import Counter
+from collections.abc import Iterator
+from pathlib import Path
 
-HERE = os.path.dirname(os.path.abspath(__file__))
+from harness import REPOSITORY, Report
+
 READ = (
-    "link_graph/src/counting link_graph/src/graph euler_split/src/* alternating_path/src/* "
-    "schedule_certificate/src/*"
-)
+    "link_graph/src/counting", "link_graph/src/graph", "euler_split/src/*",
+    "alternating_path/src/*", "schedule_certificate/src/*", "plan_answers/src/planning",
+)  # fmt: skip
 FILLS = (
     r"extend|extend_from_slice|from_slice|copy_from_slice|resize|collect|split_off|copy|clone|"
     r"to_vec|fill|push|vec!|sort\w*|contains|(?:into_)?iter\w*|chunks\w*|zip|sum|reverse|retain|"
@@ -34,52 +37,62 @@ CALL = re.compile(rf"\b({FILLS})[(\[]")
 ALWAYS = re.compile(r"\b(truncate)\(|(?<!!)\[(?!in |u\d|usize|bool|Option)[^\[\];]+; ")
 TWIN = re.compile(r"(?:\.|(?:LinkGraph|Table)::)(\w+)\(")
 
+# A function, and a word of it that may take many steps.
+Use = tuple[str, str]
 
-def uncounted(text, counted):
-    """What a file has that needs a reason, as function and word,
-    and how many loops and calls it has in all."""
-    words, found, seen = re.split(r"\bfn (\w+)", text), [], 0
+
+def uses(text: str, twins: set[str]) -> Iterator[tuple[Use, bool]]:
+    """What takes steps in a file, and whether it counts them. Of `twins` there is a call each that
+    counts."""
+    words = re.split(r"\bfn (\w+)", text)
     for name, body in zip(words[1::2], words[2::2]):
-        loops = LOOP.findall(body)
         calls = CALL.findall(LOOP.sub(lambda loop: "" if loop[2] else loop[0], body))
-        always = [call or "array" for call in ALWAYS.findall(body)]
-        seen += len(loops) + len(calls) + len(always)
-        found += [(name, loop) for loop, tick in loops if not tick]
-        found += [(name, call) for call in calls if body.count("steps.tick_many(") < len(calls)]
-        found += [(name, call) for call in always + ["Steps::none"] * body.count("Steps::none()")]
-        found += [
-            (name, call)
-            for call in TWIN.findall(body)
-            if call in counted and re.search(r"\bsteps\b", body)
-        ]
-    return found, seen
+        anew = [call or "array" for call in ALWAYS.findall(body)]
+        anew += ["Steps::none"] * body.count("Steps::none()")
+        if re.search(r"\bsteps\b", body):
+            anew += [call for call in TWIN.findall(body) if call in twins]
+        yield from (((name, loop), bool(tick)) for loop, tick in LOOP.findall(body))
+        are_counted = body.count("steps.tick_many(") >= len(calls)
+        yield from (((name, call), are_counted) for call in calls)
+        yield from (((name, call), False) for call in anew)
 
 
-top = sys.argv[1] if sys.argv[1:] else os.path.dirname(HERE)
-paths = sorted(path for names in READ.split() for path in glob.glob(f"{top}/crates/{names}.rt"))
-needed, reasons, seen, texts = collections.Counter(), collections.Counter(), 0, []
-for path in paths:
-    with open(path, encoding="utf-8") as file:
-        texts.append(
-            re.sub(r"//.*|^\s*(requires|ensures|ghost|#)\b.*", "", file.read(), flags=re.MULTILINE)
-        )
-counted = set(re.findall(r"\bfn (\w+)_in_steps\b", "".join(texts)))
-for path, text in zip(paths, texts):
-    found, count = uncounted(text, counted)
-    needed.update((os.path.relpath(path, f"{top}/crates"), *it) for it in found)
-    seen += count
-with open(os.path.join(HERE, "steps.txt"), encoding="utf-8") as file:
-    for line in file:
+def reasons() -> Counter[tuple[str, Use]]:
+    """How often each use may count no step, by the name of its file."""
+    found = Counter()
+    for line in (REPOSITORY / "tools/steps.txt").read_text(encoding="utf-8").splitlines():
         if ": " in line and line[0] != "#":
             name, *functions, what = line.split(": ")[0].split()
             word, _, often = what.partition("*")
-            reasons.update({(name, function, word): int(often or 1) for function in functions})
-for it in needed - reasons:
-    print("steps: WRONG: has no tick, and no reason:", *it)
-for it in reasons - needed:
-    print("steps: WRONG: needs no line in steps.txt:", *it)
-print(
-    f"steps: {seen} loops and filling calls in {len(paths)} files, {sum(reasons.values())} with a "
-    "reason"
-)
-sys.exit(needed != reasons or not seen)
+            found.update({(name, (function, word)): int(often or 1) for function in functions})
+    return found
+
+
+def main() -> None:
+    top = Path(sys.argv[1]) if sys.argv[1:] else REPOSITORY
+    report, left = Report("steps"), reasons()
+    print(f"steps: {left.total()} have a reason")
+    texts = {
+        path: re.sub(
+            r"//.*|^\s*(requires|ensures|ghost|#)\b.*", "", path.read_text("utf-8"), flags=re.M
+        )
+        for names in READ
+        for path in sorted(top.glob(f"crates/{names}.rt"))
+    }
+    twins = set(re.findall(r"\bfn (\w+)_in_steps\b", "".join(texts.values())))
+    for path, text in texts.items():
+        name = str(path.relative_to(top / "crates"))
+        for use, is_counted in uses(text, twins):
+            if not is_counted:
+                is_counted = left[name, use] > 0
+                left[name, use] -= 1
+            problems = [] if is_counted else ["it has no tick, and no reason"]
+            report.judge(" ".join([name, *use]), problems)
+    for (name, use), often in left.items():
+        if often > 0:
+            report.note(f"{name} {' '.join(use)}: it needs no line in steps.txt")
+    report.finish("{tried} loops and filling calls, {wrong} wrong")
+
+
+if __name__ == "__main__":
+    main()

@@ -15,7 +15,7 @@ cd "$(dirname "$(readlink -f "${BASH_SOURCE[0]}")")/.."
 said=$(mktemp)
 faults=$(mktemp)
 trap 'rm -f "$said" "$faults"' EXIT
-wrong=() tried=()
+wrong=() tried=() again=0
 
 # Tries one of them, for an hour at most: whether it ends well, and tried enough.
 ends_well() {
@@ -27,18 +27,15 @@ ends_well() {
     [ "$status" = 0 ]
 }
 
-# Tries one of them, and prints how many seconds it took. With `live` before it others work beside
-# it, which come late on a busy machine: then it is tried once more where it fails.
+# Tries one of them, and prints how many seconds it took.
 try() {
-    local began=$SECONDS times=1
-    [ "$1" != live ] || { times=2 && shift; }
+    local began=$SECONDS
     tried+=("$1")
-    while ! ends_well "$@"; do
+    if ! ends_well "$@"; then
+        wrong+=("$1")
         { echo "== $*" && grep -A 9 WRONG "$said" | tail -n 60; } >>"$faults"
-        times=$((times - 1))
-        [ "$times" != 0 ] || { wrong+=("$1") && break; }
-        echo "$*: once more"
-    done
+    fi
+    again=$((again + $(grep -c " was run again: " "$said" || true)))
     echo "$*: $((SECONDS - began)) s"
 }
 
@@ -62,9 +59,10 @@ try tools/texts/names.py
 try tools/texts/widths.py
 try tools/texts/promises.py
 try tools/texts/run.py
-try live tools/hosts/run.sh
+try tools/texts/change.py
+try tools/hosts/run.sh
 try tools/ends/run.sh
-try live tools/rack/run.py
+try tools/rack/run.py
 try examples/patterns/make.sh --check
 try bench/planning/run.sh --check
 try bench/run/growth.sh --check
@@ -77,6 +75,7 @@ wrong+=($(sed '/^#/d; s/ .*//' tools/least.txt | uniq |
     grep -vxF -f <(printf '%s\n' "${tried[@]}") || true))
 # What was wrong stands at the end once more.
 cat "$faults"
+echo "cases that were wrong once, and right three times after that: $again"
 if [ ${#wrong[@]} != 0 ]; then
     echo "WRONG: ${wrong[*]}"
     exit 1

@@ -1,10 +1,11 @@
 #!/usr/bin/env python3
 """Counts the steps of planning in plain Python, beside the most that are proved (`most_steps` of
-schedule_certificate): steps.py [--check]
+schedule_certificate, and `one_link_steps` where one link is in all transfers): steps.py
 
-It plans as the program does with one worker, and counts where the program's loops tick. With
---check the status is 1 where more steps were taken than may be, or where the bound is more than
-GREATEST times as much, but for batches that one link is in all of.
+It plans as the program does with one worker, and counts where the program's loops tick. The status
+is 1 where more steps were taken than may be, or where the bound is more than GREATEST times as
+much. `most_steps` is furthest off where the uses of a link are one more than a power of two, such
+as 2049, and where all transfers but one share this link.
 """
 
 import collections
@@ -12,8 +13,14 @@ import functools
 import operator
 import random
 import sys
+from pathlib import Path
 
-MODULES, LINKS, GREATEST = 32, 64, 20
+sys.path.insert(0, str(Path(__file__).resolve().parents[2] / "tools"))
+
+from harness import Report  # noqa: E402
+
+MODULES, LINKS = 32, 64
+GREATEST = {"but_one": 40, "one_link": 2, "star": 2}  # and of others 12
 steps = 0
 
 
@@ -119,27 +126,41 @@ def planned(part):
     return most
 
 
-draw, wrong = random.Random(1), False
-for count in 512, 4096:
-    for name, moves in (
-        ("one_link", [(0, 1)] * count),
-        ("scrambled", [(draw.randrange(16), draw.randrange(16)) for _ in range(count)]),
-        ("wide", [(draw.randrange(MODULES), draw.randrange(MODULES)) for _ in range(count)]),
-        ("all_to_all", [(t % MODULES, (t + t // MODULES) % MODULES) for t in range(count)]),
-        ("power_of_two", [(t % 16, (t // 16 + t) % 16) for t in range(count)]),
-    ):
+def batches(draw, count):
+    """Batches of so many transfers, each with its name: as the modules of both ends."""
+    yield "one_link", [(0, 1)] * count
+    yield "star", [(0, t % MODULES) for t in range(count)]
+    yield "but_one", [(0, 1)] * min(count, 4095) + [(2, 3)]
+    yield "two_by_two", [(t % 2, t // 2 % 2) for t in range(count)]
+    yield "scrambled", [(draw.randrange(16), draw.randrange(16)) for _ in range(count)]
+    yield "wide", [(draw.randrange(MODULES), draw.randrange(MODULES)) for _ in range(count)]
+    yield "all_to_all", [(t % MODULES, (t + t // MODULES) % MODULES) for t in range(count)]
+    yield "power_of_two", [(t % 16, (t // 16 + t) % 16) for t in range(count)]
+
+
+def most_steps(n, settings):
+    """The most steps that are proved of a plan of n transfers in so many settings."""
+    k = (settings - 1).bit_length()
+    most = 32 * n * k + 11 * n + 4 * LINKS * ((k + 2) * 2**k - 1) + (MODULES + 1) * 2**k
+    return min(most, 108 * (n + 1)) if settings == n else most
+
+
+def main():
+    global steps
+    draw, report = random.Random(1), Report("steps")
+    for name, moves in (it for count in (512, 2049, 4096) for it in batches(draw, count)):
         steps = 0
         settings, n = planned([(m, MODULES + to) for m, to in moves]), len(moves)
-        k = (settings - 1).bit_length()
-        most = 32 * n * k + 11 * n + 4 * LINKS * ((k + 2) * 2**k - 1) + (MODULES + 1) * 2**k
+        most = most_steps(n, settings)
         print(
             f"{name:13} {n:4} transfers, {settings:4} settings: {steps:7} steps, at most {most:8}, "
             f"ratio {most / steps:.1f}"
         )
-        # The bound has cells for each colour at each level. Where all transfers share a link, one
-        # table is made, and no level is below
-        for figure, greatest in (steps, most), (most / steps, GREATEST if settings < n else most):
-            if figure > greatest:
-                print(f"WRONG: {name}: {figure:.1f} is over {greatest}")
-                wrong = True
-sys.exit(1 if wrong and "--check" in sys.argv else 0)
+        report.check(f"{name}: {steps} steps are at most {most}", steps <= most, True, "bounds")
+        is_near = most / steps <= GREATEST.get(name, 12)
+        report.check(f"{name}: {most} isn't far above {steps}", is_near, True, "bounds")
+    report.finish("{tried} figures compared, {wrong} wrong")
+
+
+if __name__ == "__main__":
+    main()

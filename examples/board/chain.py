@@ -6,10 +6,18 @@ A number has two bytes, the lower one first. That
 of a setting has the modules do their orders of it.
 """
 
+import contextlib
+import os
+import re
+import signal
 import sys
 
-# The ways of a cable. Before each byte goes the number of its way.
-SWITCH, MODULES, SWITCH_B = 0, 1, 2
+# The ways of a cable. Before each byte goes the number of its way. A byte on the last one asks the
+# relay what it is. It answers there, and does nothing else.
+SWITCH, MODULES, SWITCH_B, KIND = 0, 1, 2, 3
+
+# What a relay is: one passes on the bytes of the switch, the other has them as tables.
+PLAIN, BY_TABLES = 0, 1
 
 # END ends the modules, and WAIT comes back once all of them wait. For TABLES each module tells the
 # sum of its tables, how many blocks it has, and how many words each. After FILL come the words of
@@ -20,15 +28,64 @@ END, WAIT, TABLES, FILL, READ = -1, -2, -3, -4, -5
 # How many numbers a module tells for TABLES.
 TOLD = 3
 
+# Settings that a schedule has at most: from this number on none has orders.
+MOST_SETTINGS = 4096
+
 # Modules that one switch has links for.
 ON_ONE_SWITCH = 16
 
 # The status of a process that ends since another one has: rack.py then looks for that one.
 LINK_ENDED = 3
 
+# The signals that end a program. Each blocks them before it imports anything else.
+ENDING = signal.SIGINT, signal.SIGTERM
+
 LINKS = (0, 3)
 IDLE = "idle"
 ACTS = (IDLE, "send block", "send copy", "receive block")
+
+
+class Ended(BaseException):
+    """A signal ends the program."""
+
+
+def ignore_signals():
+    """From here on no signal ends the program: it is at its end."""
+    for number in ENDING:
+        signal.signal(number, signal.SIG_IGN)
+
+
+def run(name, main):
+    """Runs a program until its end, or until a signal: then what it began is ended,
+    and one line says so."""
+
+    def end(number, _):
+        ignore_signals()
+        raise Ended(number)
+
+    try:
+        for number in ENDING:
+            # One that is ignored stays so.
+            if signal.getsignal(number) != signal.SIG_IGN:
+                signal.signal(number, end)
+        signal.pthread_sigmask(signal.SIG_UNBLOCK, ENDING)
+        main()
+    except Ended as ended:
+        number = signal.Signals(ended.args[0])
+        print(f"{name}: ended by {number.name}", file=sys.stderr, flush=True)
+        sys.exit(128 + number)
+    except OSError as error:
+        sys.exit(f"{name}: {error}")
+    finally:
+        ignore_signals()
+
+
+def must_not_be_read(program, written, *read):
+    """Ends a program that would write a file that it reads."""
+    for name in filter(None, read if written else ()):
+        with contextlib.suppress(OSError):
+            if os.path.samefile(written, name):
+                sys.exit(f"{program}: --image-out {written}: that is {name}, which is read")
 
 
 def sent(*numbers):
@@ -107,6 +164,15 @@ def read_switch(text):
         found += bytes.fromhex("".join(pairs))
         ends.append(len(found))
     return found, ends
+
+
+def read_wiring(text):
+    """The links of the switch that modules are on, by the module's number,
+    and by 0 for its link 0 and 1 for its link 3."""
+    found = re.findall(r"module (\d+) link 0 (?:at (\d+)|none) link 3 (?:at (\d+)|none)", text)
+    return {
+        (int(module), end): int(at) for module, *ends in found for end, at in enumerate(ends) if at
+    }
 
 
 def switch_sum(found, ends):

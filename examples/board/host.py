@@ -3,43 +3,58 @@
 and the modules hear which setting stands.
 
     host.py CABLE BATCH [--steady | --schedule FILE] [--wiring FILE] [--from K] [--switches 2]
-            [--image FILE] [--image-out FILE] [--pause] [--tables] [--patience SECONDS]
+            [--shape SHAPE] [--image FILE] [--image-out FILE] [--pause] [--tables]
+            [--patience SECONDS]
 
 CABLE is a device, or the two named pipes CABLE.in, to the board, and CABLE.out, from it; --steady,
 --schedule, --wiring and --from are those of `drive`. Before a word moves, the tables of all modules
-are compared with the orders of BATCH. With --image the modules get the words of an image, as
-`apply` has them, before the first setting, and with --image-out those that they have in the end are
-put into a file, which is opened first. A rack of more than 16 modules has two switches, and one of
-fewer with --switches 2. With --pause it waits for the return key before the modules hear of a
-setting, unless its input has ended. With --tables the board sets its switch itself, by the tables
-of relay.c.
+are compared with the orders of BATCH, and their number, blocks and words with SHAPE, which is MxKxW
+and has to be there with --image. With --image the modules get the words of an image, as `apply` has
+them, before the first setting, and with --image-out those that they have in the end are put into a
+file, which is opened first. A rack of more than 16 modules has two switches, and one of fewer with
+--switches 2. With --pause it waits for the return key before the modules hear of a setting, unless
+its input has ended. With --tables the board sets its switch itself, by the tables of relay.c.
 
 Where nothing has come for five seconds, a line on standard error says what is awaited. With
---patience it ends with status 4 where nothing has come for so many seconds. docs/BOARD.md says
-more. The program is the one that EXCHANGE names, or `exchange` on the PATH, or in this folder.
+--patience it ends with status 4 where nothing has come for so many seconds. Where a signal ends it
+the words that it began to send a module go first. docs/BOARD.md says more. The program is the one
+that EXCHANGE names, or `exchange` on the PATH, or in this folder.
 """
+
+import signal
+
+if __name__ == "__main__":
+    # Until chain.run takes them.
+    signal.pthread_sigmask(signal.SIG_BLOCK, (signal.SIGINT, signal.SIGTERM))
 
 import argparse
 import contextlib
 import errno
 import fcntl
+import math
 import os
+import random
+import re
 import select
 import shutil
-import signal
 import stat
 import subprocess
 import sys
 import tempfile
+import termios
 import time
 
 # Nothing is left in the folder of the examples.
 sys.dont_write_bytecode = True
 
 from chain import (
+    BY_TABLES,
     END,
+    ENDING,
     FILL,
+    KIND,
     MODULES,
+    MOST_SETTINGS,
     ON_ONE_SWITCH,
     READ,
     SWITCH,
@@ -48,7 +63,8 @@ from chain import (
     TOLD,
     WAIT,
 )  # noqa: E402
-from chain import numbers, orders_sum, read_orders, read_switch, sent, switch_sum  # noqa: E402
+from chain import must_not_be_read, numbers, orders_sum, read_orders, read_switch  # noqa: E402
+from chain import run, sent, switch_sum  # noqa: E402
 
 PROGRAM = os.path.abspath(os.environ.get("EXCHANGE") or shutil.which("exchange") or "exchange")
 
@@ -68,6 +84,14 @@ SILENT = 4
 # Bytes that a cable is handed at once, in pairs: a pipe takes them all, or none.
 PART = 512
 
+# What a terminal that isn't raw does with bytes: words of `stty`,
+# by their places in what tcgetattr gives.
+COOKED = {
+    0: ("PARMRK", "ISTRIP", "INLCR", "IGNCR", "ICRNL", "IXON", "IXOFF"),
+    1: ("OPOST",),
+    3: ("ICANON", "ECHO", "ISIG"),
+}
+
 
 def fail(text, status=1):
     print(f"host.py: {text}", file=sys.stderr, flush=True)
@@ -83,7 +107,7 @@ class Cable:
         )
         if any(stat.S_ISREG(os.stat(end).st_mode) for end in (there, back)):
             fail(f"{name} is a plain file, and no cable")
-        self.name, self.patience = name, patience
+        self.name, self.patience, self.speed = name, patience, ""
         self.going, self.begun, self.readers = bytearray(), b"", {}
         # What the modules have said, and the board that sets its switch itself;
         # and where answers of a switch go.
@@ -94,6 +118,8 @@ class Cable:
             fcntl.flock(self.out, fcntl.LOCK_EX | fcntl.LOCK_NB)
         except BlockingIOError:
             fail(f"another host has {name}")
+        if os.isatty(self.out):
+            self.look_at_terminal()
         self.back = os.open(back, os.O_RDONLY | os.O_NOCTTY | os.O_NONBLOCK)
         self.drop_what_comes()
         self.readers[self.back] = self.listen
@@ -107,6 +133,26 @@ class Cable:
                 raise
         return self.out is not None
 
+    def look_at_terminal(self):
+        """Ends if a terminal changes bytes, or holds them back."""
+        flags = termios.tcgetattr(self.out)
+        *_, speed, signs = flags
+        found = [
+            word.lower()
+            for at, words in COOKED.items()
+            for word in words
+            if flags[at] & getattr(termios, word)
+        ]
+        if [signs[termios.VMIN], signs[termios.VTIME]] != [1, 0]:
+            found.append("not min 1 time 0")
+        bauds = {getattr(termios, it): it[1:] for it in dir(termios) if re.fullmatch(r"B\d+", it)}
+        self.speed = f", at {bauds.get(speed, 'an unknown number of')} baud"
+        if found:
+            fail(
+                f"{self.name} isn't raw ({', '.join(found)}){self.speed}: first "
+                f"stty -F {self.name} SPEED raw -echo min 1 time 0"
+            )
+
     def drop_what_comes(self):
         """Drops what an earlier host left on its way: until half a second long nothing comes."""
         end = time.monotonic() + DROP
@@ -117,6 +163,28 @@ class Cable:
     def send(self, way, words):
         """Sends bytes, and before each of them the number of its way."""
         self.going += b"".join(bytes([way, byte]) for byte in words)
+
+    def hand_on(self):
+        """Hands the cable what it takes. A signal waits meanwhile: no byte goes twice."""
+        held = signal.pthread_sigmask(signal.SIG_BLOCK, ENDING)
+        try:
+            del self.going[: os.write(self.out, self.going[:PART])]
+        finally:
+            signal.pthread_sigmask(signal.SIG_SETMASK, held)
+
+    def finish(self):
+        """Hands on the rest of what was begun. A module that lacks words would take those of the
+        next host for them."""
+        # A cable that has ended needs nothing.
+        with contextlib.suppress(OSError):
+            while self.going and select.select([], [self.out], [], TELL)[1]:
+                self.hand_on()
+            if self.going:
+                print(
+                    "host.py: nobody took the rest of what was begun: boot the relay and the "
+                    "modules again",
+                    file=sys.stderr,
+                )
 
     def listen(self, back):
         """Takes what comes: answers of a switch to `drive`, and what the modules say."""
@@ -145,9 +213,9 @@ class Cable:
             self.drive.end()
         fail(f"the cable has ended, and awaited was {self.awaited}")
 
-    def wait(self, is_there, awaited):
+    def wait(self, is_there, awaited, hint=""):
         """Carries bytes until what is awaited is there. Where nothing comes,
-        a line says what it is."""
+        a line says what it is, and what may help."""
         since, is_told, self.awaited = time.monotonic(), False, awaited
         while not is_there():
             coming, going, _ = select.select(
@@ -156,17 +224,16 @@ class Cable:
             for end in coming:
                 self.readers[end](end)
             if going:
-                del self.going[: os.write(self.out, self.going[:PART])]
+                self.hand_on()
             if coming or going:
                 since, is_told = time.monotonic(), False
             quiet = time.monotonic() - since
             if self.patience is not None and quiet >= self.patience:
-                fail(
-                    f"nothing has come for {self.patience:g} s; awaited was {self.awaited}", SILENT
-                )
+                waited = f"nothing has come for {self.patience:g} s"
+                fail(f"{waited}; awaited was {awaited}{hint}", SILENT)
             if quiet >= TELL and not is_told:
                 print(
-                    f"host.py: nothing has come for {TELL} s; awaited is {self.awaited}",
+                    f"host.py: nothing has come for {TELL} s; awaited is {awaited}{hint}",
                     file=sys.stderr,
                     flush=True,
                 )
@@ -191,15 +258,27 @@ class Cable:
             fail(f"{came} came back, and awaited was {awaited}")
 
     def find_modules(self):
-        """Waits until all modules wait for a setting.
-        What comes before they say so was left of an earlier host."""
-        self.tell(WAIT)
+        """Waits until all modules wait for a setting. What comes before they say so was left of an
+        earlier host, perhaps a number of its own: so they are told some that it hardly told."""
+        marks = random.sample(range(MOST_SETTINGS, 1 << 15), 3)
+        self.send(MODULES, sent(WAIT, *marks))
         heard = self.heard[MODULES]
         self.wait(
-            lambda: heard.endswith(sent(WAIT)),
+            lambda: heard.endswith(sent(*marks)),
             f"{WAIT} from the modules, which all of them pass on",
+            f"{self.speed}; if an earlier host was killed, boot the relay and the modules again",
         )
         heard.clear()
+
+    def ask_relay(self, by_tables):
+        """Ends if the relay isn't one with tables, or is one, where the other is meant."""
+        self.heard[KIND] = bytearray()
+        self.send(KIND, bytes(1))
+        is_found = self.hear(1, "from the relay whether it has tables", KIND)[0] == BY_TABLES
+        if is_found and not by_tables:
+            fail("the relay sets the switch by tables of its own: that goes by --tables")
+        if by_tables and not is_found:
+            fail("the relay has no tables of the switch, by which --tables goes")
 
     def move(self, setting):
         """Tells the modules that a setting is set, and waits until all of them are done."""
@@ -224,9 +303,9 @@ class Cable:
             told = numbers(head + self.hear(2 * TOLD - 2, awaited))
             modules.append((told, self.hear(size, f"the words of module {len(modules)}")))
 
-    def compare(self, count, due):
-        """Compares the tables of all modules with the orders that they should have: how many
-        modules there are, with how many blocks and words."""
+    def compare(self, count, due, meant=None):
+        """Compares the tables of all modules with the orders that they should have, and their
+        number, blocks and words with a shape: the shape that they have."""
         found = [told for told, _ in self.hear_each(TABLES)]
         wanted = max(due, default=0) + 1
         if len(found) < wanted:
@@ -252,16 +331,19 @@ class Cable:
                 faults.append(
                     f"module {m} has {shape[0]} blocks, and the batch names its block {block}"
                 )
+        own = len(found), *found[0][1:]
+        if meant and meant != own:
+            faults.append(f"the modules are {shape_text(own)}, and not {shape_text(meant)}")
         if faults:
             fail("\nhost.py: ".join(faults))
-        return len(found), *found[0][1:]
+        return own
 
     def fill(self, shape, image):
         """Fills the modules with the words of an image."""
         size = len(image) // shape[0]
         for m in range(shape[0]):
-            self.tell(FILL)
-            self.send(MODULES, image[m * size : (m + 1) * size])
+            # At once: a signal doesn't come between these.
+            self.send(MODULES, sent(FILL) + image[m * size : (m + 1) * size])
             self.hear_back(FILL, f"{FILL} from the modules, once module {m} has its words")
 
     def move_by_tables(self, first, found, ends):
@@ -286,11 +368,6 @@ class Cable:
     def read(self, shape):
         """The words of all modules."""
         return b"".join(words for _, words in self.hear_each(READ, 4 * shape[1] * shape[2]))
-
-
-def size_of(shape):
-    """How many bytes the words of so many modules, blocks and words have."""
-    return 4 * shape[0] * shape[1] * shape[2]
 
 
 class Drive:
@@ -363,7 +440,7 @@ def words_of(arguments):
     )
     for name in "cable", "batch":
         words.add_argument(name)
-    for name in "--schedule", "--wiring", "--image", "--image-out":
+    for name in "--schedule", "--wiring", "--shape", "--image", "--image-out":
         words.add_argument(name)
     for name in "--steady", "--pause", "--tables", "--go-on":
         words.add_argument(name, action="store_true")
@@ -378,7 +455,29 @@ def words_of(arguments):
         )
     if "-" in (given.batch, given.schedule, given.wiring):
         fail("no file is standard input: the program reads them more than once")
+    if given.image and not given.shape:
+        fail("--image has words alone: --shape MxKxW says how many modules, blocks and words")
+    if given.shape:
+        if not re.fullmatch(r"[1-9]\d*x[1-9]\d*x[1-9]\d*", given.shape):
+            fail(f'--shape {given.shape} isn\'t "MxKxW": modules, blocks and words')
+        given.shape = tuple(map(int, given.shape.split("x")))
     return given
+
+
+def shape_text(shape):
+    return "x".join(map(str, shape))
+
+
+def read_image(given):
+    """The words of an image, if there is one."""
+    if not given.image:
+        return None
+    with open(given.image, "rb") as file:
+        image = file.read()
+    size = 4 * math.prod(given.shape)
+    if len(image) != size:
+        fail(f"{given.image} has {len(image)} bytes, and {shape_text(given.shape)} has {size}")
+    return image
 
 
 def open_to_write(name):
@@ -415,6 +514,13 @@ def drive_all(cable, drive, given):
         drive.process.wait()
 
 
+def write_image(left, name, words):
+    with left:
+        left.write(words)
+        if os.path.isfile(name):
+            left.truncate()
+
+
 def main():
     given = words_of(sys.argv[1:])
     if not shutil.which(PROGRAM):
@@ -423,62 +529,45 @@ def main():
         *(["--schedule", given.schedule] if given.schedule else []),
         *(["--steady"] if given.steady else []),
     ]
-    wiring = ["--wiring", given.wiring] if given.wiring else []
+    words = [given.batch, *schedule, *(["--wiring", given.wiring] if given.wiring else [])]
     count, due = read_orders(ask("orders", given.batch, *schedule))
-    image = None
-    if given.image:
-        with open(given.image, "rb") as file:
-            image = file.read()
+    image = read_image(given)
     switches = ["--switches", given.switches] if given.switches else []
-    by_tables = (
-        read_switch(ask("switch", given.batch, *schedule, *wiring, *switches))
-        if given.tables
-        else None
-    )
+    by_tables = read_switch(ask("switch", *words, *switches)) if given.tables else None
     if by_tables and not (given.first.isdecimal() and int(given.first) <= count):
         fail(f"--from {given.first} names no setting")
+    read = [given.batch, given.schedule, given.wiring, given.image]
+    cables = [f"{given.cable}{way}" for way in ("", ".in", ".out")]
+    must_not_be_read("host.py", given.image_out, *read, *cables)
     left = given.image_out and open_to_write(given.image_out)
     cable = Cable(given.cable, given.patience)
-    cable.find_modules()
-    shape = cable.compare(count, due)
-    if by_tables and shape[0] > ON_ONE_SWITCH:
-        fail("--tables is for a board with one switch")
-    if image is not None:
-        if len(image) != size_of(shape):
-            fail(
-                f"{given.image} has {len(image)} bytes, and {shape[0]} modules of {shape[1]} "
-                f"blocks of {shape[2]} words have {size_of(shape)}"
-            )
-        cable.fill(shape, image)
-    status = 0
-    if by_tables:
-        cable.move_by_tables(int(given.first), *by_tables)
-    else:
-        ways = [SWITCH, SWITCH_B] if shape[0] > ON_ONE_SWITCH or switches else [SWITCH]
-        with tempfile.TemporaryDirectory(prefix="host-") as folder:
-            drive = Drive(
-                cable, folder, ways, given.batch, *schedule, *wiring, "--from", given.first
-            )
-            status = drive_all(cable, drive, given)
-    if status == 0:
-        words = cable.read(shape) if left else b""
-        cable.end_modules()
-        if left:
-            with left:
-                left.write(words)
-                if os.path.isfile(given.image_out):
-                    left.truncate()
+    try:
+        cable.find_modules()
+        cable.ask_relay(bool(by_tables))
+        shape = cable.compare(count, due, given.shape)
+        if by_tables and shape[0] > ON_ONE_SWITCH:
+            fail("--tables is for a board with one switch")
+        if image is not None:
+            cable.fill(shape, image)
+        status = 0
+        if by_tables:
+            cable.move_by_tables(int(given.first), *by_tables)
+        else:
+            ways = [SWITCH, SWITCH_B] if shape[0] > ON_ONE_SWITCH or switches else [SWITCH]
+            with tempfile.TemporaryDirectory(prefix="host-") as folder:
+                drive = Drive(cable, folder, ways, *words, "--from", given.first)
+                status = drive_all(cable, drive, given)
+        if status == 0:
+            image = cable.read(shape) if left else b""
+            cable.end_modules()
+            if left:
+                write_image(left, given.image_out, image)
+    except BrokenPipeError:
+        fail("the cable has ended, or drive has")
+    finally:
+        cable.finish()
     sys.exit(status)
 
 
 if __name__ == "__main__":
-    # So that `drive` is ended, and no folder is left.
-    signal.signal(signal.SIGTERM, lambda *_: sys.exit(128 + signal.SIGTERM))
-    try:
-        main()
-    except BrokenPipeError:
-        fail("the cable has ended, or drive has")
-    except OSError as error:
-        fail(error)
-    except KeyboardInterrupt:
-        sys.exit(130)
+    run("host.py", main)

@@ -3,7 +3,8 @@
  * another one, over channels of its own. docs/BOARD.md says more, and what is lost this way.
  *
  * Before each byte of the cable goes the number of its way. On way 1, of the modules, the bytes go
- * on. On way 0 come numbers of two bytes: for -3 the sum of the tables goes back; for K, setting K
+ * on. On way 3 a byte asks what this relay is: 1 goes back, for one with tables. On way 0 come
+ * numbers of two bytes: for -3 the sum of the tables goes back; for K, if it follows -3, setting K
  * and those after it are set and moved, and for each goes back what the modules give back once they
  * are done. In the end -1 goes back. Where a module gives another number back, this ends. */
 #include <channel.h>
@@ -14,8 +15,8 @@
  * as #define CABLEIN LINK0IN. */
 #include "switch.h" /* SETTINGS, bytes, ends, SUM: by switch_to_c.py */
 
-enum { SWITCH, MODULES };
-enum { END = -1, TABLES = -3 };
+enum { SWITCH, MODULES, KIND = 3 };
+enum { END = -1, TABLES = -3, BY_TABLES = 1 };
 
 static void give_back(short number)
 {
@@ -59,8 +60,9 @@ static int move_from(short first)
 /* Relays until a byte names another way, or another number comes back. */
 void relay(void)
 {
+    static unsigned char kind[2] = {KIND, BY_TABLES};
     unsigned char pair[2], up[2] = {MODULES, 0}, low = 0;
-    int is_high = 0;
+    int is_high = 0, is_asked = 0;
     short number;
 
     for (;;)
@@ -71,14 +73,17 @@ void relay(void)
             ChanIn(CABLEIN, pair, 2);
             if (pair[0] == MODULES)
                 ChanOut(CHAINOUT, &pair[1], 1);
+            else if (pair[0] == KIND)
+                ChanOut(CABLEOUT, kind, 2);
             else if (pair[0] != SWITCH)
                 return;
             else if (is_high) {
                 number = (short)(low | pair[1] << 8);
                 if (number == TABLES)
                     give_back(SUM);
-                else if (number >= 0 && !move_from(number))
+                else if (is_asked && number >= 0 && !move_from(number))
                     return;
+                is_asked = number == TABLES;
             } else
                 low = pair[1];
             is_high ^= pair[0] == SWITCH;

@@ -7,8 +7,9 @@
 
 CABLE and CONFIG are two named pipes each, CABLE.in towards the switch and CABLE.out back. CHAIN is
 the number of a socket, which leads to the first module. On one cable the number of its way comes
-before each byte: 0 the switch, 1 the modules, 2 switch B. Where the cable ends at slot 0, CONFIG of
-the relay there is CABLE of a second one, at the configuration link.
+before each byte: 0 the switch, 1 the modules, 2 switch B, 3 the relay itself, which answers that it
+has no tables. Where the cable ends at slot 0, CONFIG of the relay there is CABLE of a second one,
+at the configuration link.
 """
 
 import os
@@ -19,7 +20,7 @@ import threading
 # Nothing is left in the folder of the examples.
 sys.dont_write_bytecode = True
 
-from chain import LINK_ENDED, MODULES, SWITCH, SWITCH_B  # noqa: E402
+from chain import KIND, LINK_ENDED, MODULES, PLAIN, SWITCH, SWITCH_B  # noqa: E402
 
 
 def open_cable(name):
@@ -48,7 +49,8 @@ def part(cable, ways):
             sys.exit(
                 f"relay.py: the cable has lost a byte, or has one too many: {way[0]} is no way"
             )
-        os.write(ways[way[0]][1], os.read(cable, 1))
+        byte = os.read(cable, 1)
+        os.write(ways[way[0]][1], bytes([PLAIN]) if way[0] == KIND else byte)
 
 
 def gather(ways, cable):
@@ -73,7 +75,7 @@ def main():
         threading.Thread(target=carry, args=(ways[SWITCH][0], target), daemon=True).start()
         carry(source, ways[SWITCH][1])
     else:
-        ways[MODULES] = chain, chain
+        ways[MODULES], ways[KIND] = (chain, chain), os.pipe()
         threading.Thread(target=gather, args=(ways, target), daemon=True).start()
         part(source, ways)
 

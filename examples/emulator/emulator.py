@@ -8,8 +8,12 @@ with plain copying. docs/EMULATORS.md says how to run it.
 """
 
 import sys
+from typing import Dict, Iterator, List, Optional, Tuple
 
 import exchange
+
+# The bytes for the switch, setting by setting.
+Sent = List[Tuple[bytes, ...]]
 
 # Modules along a side of the grid, cells along a side of a module, and bytes of a block,
 # which is one word.
@@ -26,7 +30,7 @@ OUTER = [slice(0, 4), slice(3, 16, 4), slice(12, 16), slice(0, 16, 4)]
 FIRST = {0: 0, 3: 16}
 
 
-def neighbours(module):
+def neighbours(module: int) -> Iterator[Tuple[int, int]]:
     """The neighbours of a module, each behind the way there: 0 is north, 1 east, 2 south,
     3 west."""
     row, column = divmod(module, SIDE)
@@ -37,7 +41,7 @@ def neighbours(module):
             yield way, SIDE * r + c
 
 
-def move(modules, orders, settings):
+def move(modules: List[bytearray], orders: List[exchange.ModuleOrders], settings: Sent) -> None:
     """Has each setting set, and has the modules obey their orders of it: all of them send,
     and then all of them receive."""
     aside = {
@@ -47,10 +51,8 @@ def move(modules, orders, settings):
     }
     for setting, (sent,) in enumerate(settings):
         switch.take(sent)
-        wires, obeyed = (
-            {},
-            [(told.module, order) for told in orders for order in told.settings[setting]],
-        )
+        wires: Dict[Optional[int], bytes] = {}
+        obeyed = [(told.module, order) for told in orders for order in told.settings[setting]]
         for module, (link, act, block) in obeyed:
             if act == "send block":
                 wires[FIRST[link] + module] = bytes(modules[module][BLOCKS[block]])
@@ -61,7 +63,7 @@ def move(modules, orders, settings):
                 modules[module][BLOCKS[block]] = wires[switch.source(FIRST[link] + module)]
 
 
-def is_as_copied(modules):
+def is_as_copied(modules: List[bytearray]) -> bool:
     """Whether each module has what plain copying of its neighbours' cells gives."""
     ways = [(m, way, n) for m in range(SIDE * SIDE) for way, n in neighbours(m)]
     return all(
@@ -69,7 +71,7 @@ def is_as_copied(modules):
     )
 
 
-def spread(memory):
+def spread(memory: bytearray) -> None:
     """One step within a module: a cell burns where it, or one beside it, did."""
     north, east, south, west = (memory[block] for block in BLOCKS[4:])
     cells = memory[CELLS]

@@ -1,6 +1,6 @@
 #!/usr/bin/env bash
 # Makes the patterns' files: the batches and the moves by the rules below, the batches of moves, the
-# plans and the pictures by the program.
+# plans and the pictures by the program, that of the clone or else the one on the PATH.
 #
 #     make.sh          makes all of them anew, where they stand
 #     make.sh --check  makes them in a folder of its own, and tells which of those that stand are
@@ -12,6 +12,7 @@ unset CDPATH
 here=$(dirname "$(readlink -f "${BASH_SOURCE[0]}")")
 examples=$(dirname "$here")
 exchange=$(dirname "$examples")/exchange
+[ -x "$exchange" ] || exchange=exchange
 
 # Each of 16 modules sends its block r to each other module r,
 # where it falls upon block 16 + its own number.
@@ -145,10 +146,11 @@ draw() {
     "$exchange" draw "$1.txt" "$1.plan.txt" >"$1.svg"
 }
 
-# Makes the steady plan of a batch and its picture: draw_steady NAME
+# Makes the steady plan of a batch, its picture and its film: draw_steady NAME
 draw_steady() {
     "$exchange" plan "$1.txt" --steady >"$1.steady.txt"
     "$exchange" draw "$1.txt" "$1.steady.txt" >"$1.steady.svg"
+    "$examples/crossbar_film.py" "$1.txt" "$1.steady.txt" >"$1.film.svg"
 }
 
 # Makes all files, in the folder of the examples or a copy of it.

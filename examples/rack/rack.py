@@ -17,12 +17,17 @@ does what it is told for link 0, and then what it is told for link 3: that hangs
 docs/BOARD.md says how to run it.
 """
 
+import signal
+
+if __name__ == "__main__":
+    # Until chain.run takes them.
+    signal.pthread_sigmask(signal.SIG_BLOCK, (signal.SIGINT, signal.SIGTERM))
+
 import argparse
 import contextlib
 import fcntl
 import os
 import queue
-import signal
 import socket
 import subprocess
 import sys
@@ -44,7 +49,13 @@ HERE = os.path.dirname(os.path.realpath(__file__))
 BOARD = os.path.join(os.path.dirname(HERE), "board")
 sys.path.append(BOARD)
 
-from chain import LINK_ENDED, ON_ONE_SWITCH  # noqa: E402
+from chain import (
+    LINK_ENDED,
+    ON_ONE_SWITCH,
+    ignore_signals,
+    must_not_be_read,
+    run,
+)  # noqa: E402
 
 HOST = "host.py"
 
@@ -75,9 +86,12 @@ class Rack:
     def start(self, name, *words, links=()):
         """Starts a program, whose last words are the numbers of its links."""
         numbers = [link.fileno() for link in links]
+        # The terminal's Ctrl-C is for the rack, which ends all, and for its host.
+        held = signal.pthread_sigmask(signal.SIG_BLOCK, [signal.SIGINT])
         process = self.started[name] = subprocess.Popen(
             [*words, *map(str, numbers)], stdin=subprocess.DEVNULL, pass_fds=numbers
         )
+        signal.pthread_sigmask(signal.SIG_SETMASK, held)
         threading.Thread(target=self.follow, args=(name, process), daemon=True).start()
 
     def follow(self, name, process):
@@ -162,10 +176,14 @@ class Rack:
 
     def stop(self, cable):
         """Ends all that isn't at its end, and the cable: by that a host ends."""
-        for name, process in self.started.items():
-            if name != HOST:
-                process.kill()
-                process.wait()
+        ignore_signals()
+        board = [process for name, process in self.started.items() if name != HOST]
+        # First all stand still: none says that it misses another one.
+        for number in signal.SIGSTOP, signal.SIGKILL:
+            for process in board:
+                process.send_signal(number)
+        for process in board:
+            process.wait()
         for end in cable:
             os.close(end)
         if HOST in self.started:
@@ -212,11 +230,14 @@ def words_of(arguments):
     )
     for name in "shape", "batch":
         words.add_argument(name)
-    for name in "--schedule", "--wiring", "--cable", "--modules", "--relay":
+    for name in "--schedule", "--wiring", "--cable", "--modules", "--relay", "--image-out":
         words.add_argument(name)
     for name in "--steady", "--slot-0", "--in-turn":
         words.add_argument(name, action="store_true")
     given, others = words.parse_known_args(arguments)
+    # The files that the host reads are others than these.
+    must_not_be_read("rack.py", given.image_out, given.batch, given.schedule, given.wiring)
+    others += ["--image-out", given.image_out] if given.image_out else []
     if others and given.cable:
         words.error(f"{' '.join(others)}: host.py takes these, and with --cable you start it")
     return given, others
@@ -261,8 +282,8 @@ def main():
         try:
             rack.start_all(cable, ports, module, wired, given)
             if not given.cable:
-                words = [cable, texts[0], "--schedule", texts[1], *wired, *others]
-                rack.start(HOST, sys.executable, f"{BOARD}/{HOST}", *words)
+                words = [cable, texts[0], "--schedule", texts[1], *wired, "--shape", given.shape]
+                rack.start(HOST, sys.executable, f"{BOARD}/{HOST}", *words, *others)
             print(f"rack.py: {rack.numbers()}", file=sys.stderr, flush=True)
             fault = rack.wait()
             if given.cable and not fault:
@@ -274,11 +295,4 @@ def main():
 
 
 if __name__ == "__main__":
-    # So that all is ended, and no folder is left.
-    signal.signal(signal.SIGTERM, lambda *_: sys.exit(128 + signal.SIGTERM))
-    try:
-        main()
-    except OSError as error:
-        sys.exit(f"rack.py: {error}")
-    except KeyboardInterrupt:
-        sys.exit(128 + signal.SIGINT)
+    run("rack.py", main)

@@ -12,7 +12,6 @@ of the switch they are on. rack.py starts this program, which ends when nobody s
 
 import argparse
 import os
-import re
 import select
 import socket
 import sys
@@ -26,7 +25,7 @@ HINT = "have rack.py and host.py the same wiring and schedule?"
 sys.dont_write_bytecode = True
 sys.path.append(os.path.join(os.path.dirname(os.path.dirname(os.path.realpath(__file__))), "board"))
 
-from chain import LINK_ENDED  # noqa: E402
+from chain import LINK_ENDED, read_wiring  # noqa: E402
 
 
 class Chip:
@@ -84,17 +83,6 @@ class Wires:
             other.sendall(words)
 
 
-def read_wiring(path):
-    """The links of the switch that modules are on, by the module's number,
-    and by 0 for its link 0 and 1 for its link 3."""
-    with open(path, encoding="utf-8") as file:
-        text = file.read()
-    found = re.findall(r"module (\d+) link 0 (?:at (\d+)|none) link 3 (?:at (\d+)|none)", text)
-    return {
-        (int(module), end): int(at) for module, *ends in found for end, at in enumerate(ends) if at
-    }
-
-
 def main():
     words = argparse.ArgumentParser()
     words.add_argument("--wiring")
@@ -102,7 +90,11 @@ def main():
     given = words.parse_args()
     links = [socket.socket(fileno=int(word)) for word in given.words if word.isdigit()]
     chips = [Chip(word) for word in given.words if not word.isdigit()]
-    wires = Wires(chips, links, given.wiring and read_wiring(given.wiring))
+    wiring = None
+    if given.wiring:
+        with open(given.wiring, encoding="utf-8") as file:
+            wiring = read_wiring(file.read())
+    wires = Wires(chips, links, wiring)
     setting = {chip.read: chip for chip in chips}
     while setting:
         ready = select.select([*setting, *links], [], [])[0]

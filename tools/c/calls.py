@@ -1,8 +1,7 @@
 #!/usr/bin/env python3
 """Spoilt texts through the calls for programs in C, byte for byte against the built program.
 
-    calls.py TRY [COUNT]        COUNT texts in all, 4000 where it isn't said, through the built
-                                program tools/c/try.c
+    calls.py TRY COUNT          COUNT texts in all, through the built program tools/c/try.c
     calls.py TRY --examples     the examples, each growth of memory refused in turn
     calls.py TRY --stack        the largest texts, each call on a thread with as much stack as
                                 docs/EMULATORS.md says
@@ -26,6 +25,9 @@ import plain
 import spoil
 import texts
 from program import ask
+
+import harness
+from harness import Report
 
 # The calls, and the names of the texts that each wants.
 CALLS = {
@@ -168,42 +170,40 @@ def beside(name, given, program):
     return notes.overlapping(notes.Asked("batch", ("batch", given[0]))) if is_told else b""
 
 
-def is_same(calls, name, given):
-    """Whether the call and the program give one answer, and tell the same of a refusal."""
+def compare(report, calls, name, given):
+    """Compares the answers of the call and of the program, and what they tell of a refusal."""
     status, answer = calls.ask(name, given)
     why = calls.why(name, given)
     for file, text in zip(CALLS[name], given):
         with open(file, "wb") as out:
             out.write(text)
     program = ask(*words_of(name, given))
-    return (status, answer, why[0], why[1] + beside(name, given, program)) == (
-        program.status,
-        told(name, program),
-        0,
-        program.err,
-    )
+    found = (status, answer, why[0], why[1] + beside(name, given, program))
+    wanted = (program.status, told(name, program), 0, program.err)
+    what = f"{name} {[text[:400] for text in given]}"
+    return report.check(what, found, wanted, "answers of calls compared")
+
+
+def compare_all(asked, path, *words):
+    """Compares the answers of these calls by the program in C with these words."""
+    report = Report("calls", is_silent=True)
+    with harness.room("calls", enter=True):
+        calls = Calls(path, *words)
+        # Up to the first that is wrong: it may have ended the program.
+        all(compare(report, calls, *it) for it in asked)
+        report.check("how the program in C ends", calls.end(), True)
+    return report
+
+
+def spoilt(first, count):
+    """Calls of spoilt texts, by their numbers."""
+    for number in range(first, first + count):
+        name = list(CALLS)[number % len(CALLS)]
+        yield name, texts_for(random.Random(f"c {number}"), name)
 
 
 def try_some(path, first, count):
-    """Whether the calls answer these texts as the program does."""
-    well = 0
-    with tempfile.TemporaryDirectory() as room:
-        os.chdir(room)
-        calls = Calls(path)
-        for number in range(first, first + count):
-            name = list(CALLS)[number % len(CALLS)]
-            draw = random.Random(f"c {number}")
-            given = texts_for(draw, name)
-            if not is_same(calls, name, given):
-                print(
-                    f"calls: WRONG at text {number}: {name} {[text[:400] for text in given]}",
-                    file=sys.stderr,
-                )
-                break
-            well += 1
-        ended = calls.end()
-        os.chdir("/")
-    return well == count and ended
+    return compare_all(spoilt(first, count), path)
 
 
 def read(name):
@@ -272,22 +272,6 @@ def largest():
     yield "apply", [b"%dx%dx%d" % shape, half, draw.randbytes(4 * shape[0] * shape[1] * shape[2])]
 
 
-def are_same(asked, path, *words):
-    """Whether these calls give what the program does, by the program in C with these words."""
-    with tempfile.TemporaryDirectory() as room:
-        os.chdir(room)
-        calls = Calls(path, *words)
-        wrong = [
-            (name, [text[:80] for text in given])
-            for name, given in asked
-            if not is_same(calls, name, given)
-        ]
-        os.chdir("/")
-    for it in wrong:
-        print(f"calls: WRONG: {it}", file=sys.stderr)
-    return calls.end() and not wrong
-
-
 def has_no_more(path, size):
     """Whether a thread with so many kilobytes of stack has no more: the program ends where a thread
     takes as many before its call."""
@@ -300,8 +284,8 @@ def has_no_more(path, size):
 
 
 def on_small_stacks(path):
-    """The examples and the largest texts, on threads with as much stack as the page says, which may
-    name calls that need another number."""
+    """What comes of the examples and the largest texts on threads with as much stack as the page
+    says, which may name calls that need another number."""
     with open(f"{TOP}/docs/EMULATORS.md", encoding="utf-8") as file:
         most, more = re.search(
             r"and (\d+) kilobytes of stack(.*?)\.", " ".join(file.read().split())
@@ -311,33 +295,31 @@ def on_small_stacks(path):
         for size, names in re.findall(r", (\d+) in ([^,]*)", more)
         for name in re.findall(r"`exchange_(\w+)`", names)
     }
-    asked = {}
+    asked, report = {}, Report("calls")
     for name, given in [*examples(), *largest()]:
         asked.setdefault(named.get(name, most), []).append((name, given))
-    print(f"calls: {sum(map(len, asked.values()))} calls on small stacks")
-    more = [size for size in asked if not has_no_more(path, size)]
-    if more:
-        print(f"calls: WRONG: threads with more stack than {more} kilobytes", file=sys.stderr)
-    return all([are_same(calls, path, "stack", size) for size, calls in asked.items()]) and not more
+    for size, calls in asked.items():
+        report.add(compare_all(calls, path, "stack", size))
+        what = f"threads have no more stack than {size} kilobytes"
+        report.check(what, has_no_more(path, size), True, "sizes of stacks")
+    return report
 
 
 def main():
-    path = os.path.abspath(sys.argv[1])
-    if sys.argv[2:] == ["--examples"]:
-        sys.exit(not are_same(examples(), path, "no-memory"))
-    if sys.argv[2:] == ["--stack"]:
-        sys.exit(not on_small_stacks(path))
-    count = int(sys.argv[2]) if len(sys.argv) > 2 else 4000
-    workers = os.cpu_count() or 1
+    path, words = os.path.abspath(sys.argv[1]), sys.argv[2:]
+    if words == ["--examples"]:
+        report = Report("calls without memory")
+        report.add(compare_all(examples(), path, "no-memory"))
+        report.finish()
+    if words == ["--stack"]:
+        on_small_stacks(path).finish("on small stacks, {tried} tried, {wrong} wrong")
+    count, workers, report = int(words[0]), os.cpu_count() or 1, Report("calls")
     size = -(-count // workers)
     parts = [(path, first, min(size, count - first)) for first in range(0, count, size)]
     with multiprocessing.Pool(workers) as pool:
-        well = pool.starmap(try_some, parts)
-    print(
-        f"{count} spoilt texts through the calls for C: "
-        f"{'as the program' if all(well) else 'WRONG'}"
-    )
-    sys.exit(0 if all(well) else 1)
+        for own in pool.starmap(try_some, parts):
+            report.add(own)
+    report.finish("{tried} tried of spoilt texts, {wrong} wrong")
 
 
 if __name__ == "__main__":

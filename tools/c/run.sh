@@ -8,9 +8,9 @@
 #              texts, and without memory
 #   stack      each call of the largest texts on a thread with as much stack as docs/EMULATORS.md
 #              says
-#   texts      COUNT spoilt texts, 4000 where it isn't said, byte for byte against the built
+#   texts      COUNT spoilt texts, 400 where it isn't said, byte for byte against the built
 #              program, with what is told of refusals
-#   states     five times as many streams and states of a switch, and of an end that waits to boot,
+#   states     fifty times as many streams and states of a switch, and of an end that waits to boot,
 #              by the built program and by plain Python
 #   defines    the numbers of exchange.h are those of the sources, of the module for Python and of
 #              these tools; its calls and states are the sources'
@@ -35,68 +35,80 @@ checks=(-std=c11 -Wall -Wextra -Werror -g -I"$top/include"
     -fsanitize=address,undefined -fno-sanitize-recover=all)
 
 program=$top/crates/exchange/out/exchange
-failed=
+. "$top/tools/harness.sh"
 
-# Whether the emulator ends with a status and says so, whose `drive` has this last line and is this
-# script, and no folder is left.
-ends() {
+# emulated STATUS COMMAND..: whether a command has this status, prints what was wanted, and leaves
+# no folder of a `drive` that noted where it was
+emulated() {
     local status=0
-    printf '#!/bin/sh\npwd >%s\n%s\n' "$work/where" "$3" >"$work/drive"
-    chmod +x "$work/drive"
-    "$work/emulator" "$work/drive" >"$work/printed" || status=$?
-    printf '%s\ndrive has ended with status %d, so nothing is compared\n' "$2" "$1" >"$work/wanted"
-    cmp "$work/printed" "$work/wanted" && [ $status = "$1" ] && [ ! -e "$(cat "$work/where")" ] ||
-        failed+=" ended"
+    "${@:2}" >"$work/printed" || status=$?
+    cmp "$work/printed" "$work/wanted" && [ $status = "$1" ] &&
+        { [ ! -e "$work/where" ] || [ ! -e "$(<"$work/where")" ]; }
 }
 
-# Whether a signal ends it with this status while its `drive` waits, and no folder is left.
+# drive SCRIPT: makes a `drive`, which notes where it is
+drive() {
+    rm -f "$work/where"
+    printf '#!/bin/sh\npwd >%s\n%s\n' "$work/where" "$1" >"$work/drive"
+    chmod +x "$work/drive"
+}
+
+# ends STATUS LAST SCRIPT: whether the emulator ends with a status and says so, whose `drive` has
+# this last line
+ends() {
+    drive "$3"
+    printf '%s\ndrive has ended with status %d, so nothing is compared\n' "$2" "$1" >"$work/wanted"
+    emulated "$1" "$work/emulator" "$work/drive"
+}
+
+# Whether it says that transfers went wrong where its `drive` sets nothing.
+sees_nothing() {
+    ! "$work/emulator" "$(type -P true)" >"$work/printed" &&
+        [ "$(tail -n 1 "$work/printed")" = WRONG ]
+}
+
+# stops SIGNAL STATUS: whether a signal ends it with this status while its `drive` waits, and no
+# folder is left
 stops() {
     local status=0
-    rm -f "$work/where"
-    printf '#!/bin/sh\npwd >%s\nexec cat\n' "$work/where" >"$work/drive"
-    chmod +x "$work/drive"
+    drive 'exec cat'
     "$work/emulator" "$work/drive" &
     until [ -s "$work/where" ] || ! kill -0 $!; do sleep 0.05; done
     kill -s "$1" $! || true
     wait $! || status=$?
-    [ $status = "$2" ] && [ ! -e "$(cat "$work/where")" ] || failed+=" stopped"
+    [ $status = "$2" ] && [ ! -e "$(<"$work/where")" ]
 }
 
 cc "${checks[@]}" -o "$work/emulator" "$top/examples/emulator/emulator.c" "$library" "$kit"
-"$work/emulator" >"$work/printed" && cmp "$work/printed" "$top/examples/emulator/printed.txt" ||
-    failed+=" emulator"
+cp "$top/examples/emulator/printed.txt" "$work/wanted"
+check emulator emulated 0 "$work/emulator"
 { echo "driven settings 4" && tail -n +2 "$top/examples/emulator/printed.txt"; } >"$work/wanted"
-"$work/emulator" "$program" >"$work/printed" && cmp "$work/printed" "$work/wanted" ||
-    failed+=" driven"
-ends 5 'refused no memory' 'echo refused no memory; exit 5'
-ends 1 'left setting 0' "exec '$program' \"\$@\" </dev/null"
-! "$work/emulator" "$(type -P true)" >"$work/printed" &&
-    [ "$(tail -n 1 "$work/printed")" = WRONG ] || failed+=" compared"
-! "$work/emulator" /none >"$work/printed" &&
-    [ "$(cat "$work/printed")" = "there is no such program" ] || failed+=" missing"
-stops TERM 143
-stops INT 130
+check driven emulated 0 "$work/emulator" "$program"
+check "no memory" ends 5 'refused no memory' 'echo refused no memory; exit 5'
+check "left" ends 1 'left setting 0' "exec '$program' \"\$@\" </dev/null"
+check "a drive that sets nothing" sees_nothing
+echo "there is no such program" >"$work/wanted"
+check missing emulated 1 "$work/emulator" /none
+check "a signal that ends it" stops TERM 143
+check "a signal that interrupts it" stops INT 130
 cc "${checks[@]}" -Wl,--wrap=malloc,--wrap=realloc -o "$work/try" "$here/try.c" "$library" "$kit"
-python3 "$here/calls.py" "$work/try" --examples || failed+=" try"
+check try python3 "$here/calls.py" "$work/try" --examples
 cc -std=c11 -O2 -Wall -Wextra -Werror -I"$top/include" -Wl,--wrap=malloc,--wrap=realloc -pthread \
     -o "$work/small" "$here/try.c" "$library" "$kit"
-python3 "$here/calls.py" "$work/small" --stack || failed+=" stack"
-python3 "$here/calls.py" "$work/try" "${1:-4000}" || failed+=" texts"
+check stack python3 "$here/calls.py" "$work/small" --stack
+check texts python3 "$here/calls.py" "$work/try" "${1:-400}"
 cc "${checks[@]}" -Wl,--wrap=malloc,--wrap=realloc -o "$work/states" "$here/states.c" "$library" \
     "$kit"
-python3 "$here/states.py" "$work/states" $((5 * ${1:-4000})) || failed+=" states"
-python3 "$here/defines.py" || failed+=" defines"
+check states python3 "$here/states.py" "$work/states" $((50 * ${1:-400}))
+check defines python3 "$here/defines.py"
 {
     printf '#include "exchange.h"\n%.0s' once again
     echo 'int main() { exchange_c004 state = {};'
     echo 'return exchange_c004_source(&state, 0) != EXCHANGE_LOOSE; }'
 } >"$work/twice.cc"
-c++ -Wall -Wextra -Werror -I"$top/include" -o "$work/twice" "$work/twice.cc" "$library" "$kit" &&
-    "$work/twice" || failed+=" C++"
+check "a program in C++" c++ -Wall -Wextra -Werror -I"$top/include" -o "$work/twice" \
+    "$work/twice.cc" "$library" "$kit"
+check "a call from C++" "$work/twice"
 nm -g "$library" "$kit" | awk 'NF > 1 { print $(NF - 1), $NF }' | LC_ALL=C sort -u >"$work/names"
-cmp "$work/names" "$here/names.txt" || failed+=" names"
-if [ -n "$failed" ]; then
-    echo "calls for programs in C: WRONG:$failed"
-    exit 1
-fi
-echo "calls for programs in C: all is well"
+check names cmp "$work/names" "$here/names.txt"
+finish

@@ -2,10 +2,10 @@
 """The calls over states, against the program and against plain Python
 that shares no code with the product.
 
-    states.py STATES [COUNT]    STATES is the built program tools/c/states.c: COUNT streams of a
-                                switch, 20000 where it isn't said, by the program `exchange c004`
-                                and by tools/ends/chip.py too; as many of an end that waits to boot,
-                                and as many states of random bytes, of each
+    states.py STATES COUNT      STATES is the built program tools/c/states.c: COUNT streams of a
+                                switch, by the program `exchange c004` and by tools/ends/chip.py
+                                too; as many of an end that waits to boot, and as many states of
+                                random bytes, of each
 """
 
 import multiprocessing
@@ -19,6 +19,7 @@ sys.path[:0] = [f"{TOP}/tools/ends", f"{TOP}/tools/hostile"]
 
 import chip
 import ends
+from harness import Report
 
 # The statuses, and what stands in the place of an answer, as include/exchange.h has them.
 DONE, REFUSED, REPLY, BOOTSTRAP, MISALIGNED, OUTSIDE, FAILED, LOOSE, NO_PORT, NO_STATE = (
@@ -259,47 +260,37 @@ KINDS = [stream_to_switch, stream_to_end, state_of_switch, state_of_end]
 
 
 def try_some(path, first, count):
-    """Whether the calls give what is wanted, for some of each kind; and the program `exchange c004`
-    for the streams of switches."""
-    calls, text, answers = Calls(path), b"", b""
+    """Compares what the calls give with what is wanted, for some of each kind; and for the streams
+    of switches with what the program `exchange c004` does."""
+    report, calls, text, answers = Report("states", is_silent=True), Calls(path), b"", b""
     for number in range(first, first + count):
         for kind in KINDS:
             given, found, wanted = kind(random.Random(f"{kind.__name__} {number}"), calls)
-            if found != wanted:
-                print(
-                    f"states: WRONG: {kind.__name__} {number}: {given.hex(' ')}\n{found}\n{wanted}",
-                    file=sys.stderr,
-                )
-                return False
+            what = f"{kind.__name__} {number}: {given.hex(' ')}"
+            report.check(what, found, wanted, "streams and states by plain Python")
             if kind is stream_to_switch:
                 # A reset that can't be taken for a port begins each stream:
                 # the byte before it belongs to no command.
                 text, answers = text + b"\xff\4" + given, answers + found[1]
-    program = subprocess.run(
-        [ends.EXCHANGE, "c004", "--quiet"], input=text, capture_output=True, timeout=600
-    )
-    if (program.stdout, program.returncode) != (answers, 0):
-        print(
-            f"states: WRONG: streams {first} to {first + count - 1} by `exchange c004`",
-            file=sys.stderr,
-        )
-        return False
-    return calls.end()
+    words = [ends.EXCHANGE, "c004", "--quiet"]
+    program = subprocess.run(words, input=text, stdout=subprocess.PIPE, timeout=600)
+    for number, (one, other) in enumerate(zip(program.stdout, answers)):
+        report.check(f"answer {number} from {first} on", one, other, "answers of `c004`")
+    ended = len(program.stdout), program.returncode
+    report.check("the end of `c004`", ended, (len(answers), 0))
+    report.check("how the program in C ends", calls.end(), True)
+    return report
 
 
 def main():
-    path, count = os.path.abspath(sys.argv[1]), int(sys.argv[2]) if len(sys.argv) > 2 else 20000
+    path, count, report = os.path.abspath(sys.argv[1]), int(sys.argv[2]), Report("states")
     workers = os.cpu_count() or 1
     size = -(-count // workers)
+    parts = [(path, first, min(size, count - first)) for first in range(0, count, size)]
     with multiprocessing.Pool(workers) as pool:
-        well = pool.starmap(
-            try_some, [(path, first, min(size, count - first)) for first in range(0, count, size)]
-        )
-    print(
-        f"{count} streams and states of each of {len(KINDS)} kinds: "
-        f"{'as the program, and as plain Python' if all(well) else 'WRONG'}"
-    )
-    sys.exit(0 if all(well) else 1)
+        for own in pool.starmap(try_some, parts):
+            report.add(own)
+    report.finish()
 
 
 if __name__ == "__main__":

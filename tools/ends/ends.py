@@ -1212,7 +1212,9 @@ def texts():
         chip = Chip()
         answers = bytes(it for it in map(chip.take, text) if it is not None)
         run = subprocess.run([EXCHANGE, "c004"], input=text, capture_output=True, timeout=LIMIT)
-        yield (run.stdout, run.stderr.decode(), run.returncode), (answers, "".join(chip.told), 0)
+        found, wanted = (run.stdout, run.returncode), (answers, 0)
+        is_same = found == wanted and run.stderr.decode() == "".join(chip.told)
+        harness.must(is_same, harness.differs("a text", found, wanted), "texts to `c004` compared")
         answered, told = answered + len(answers), told + len(chip.told)
     yield answered > 20000, True
     yield told > 5000, True
@@ -1238,7 +1240,7 @@ def main():
     ]
     report = harness.Report("ends")
     harness.run_cases(report, chosen, PROCESSES)
-    report.finish(1, f"{len(chosen)} cases, {{tried}} things looked at, {{wrong}} cases wrong")
+    report.finish(f"{len(chosen)} cases, {{tried}} things looked at, {{wrong}} cases wrong")
 
 
 if __name__ == "__main__":

@@ -1,7 +1,7 @@
 #!/usr/bin/env python3
 """Sixteen clients at once on one exchange, and its record judged afterwards.
 
-    clients.py [ROUNDS]         so many rounds, 1000 where it isn't said
+    clients.py [ROUNDS]         so many rounds, 250 where it isn't said
 
 In each round sixteen random scripts are served side by side, with a record and the image that they
 leave. In every fifth round `serve` doesn't read them, but live clients of `host` say them over
@@ -11,12 +11,12 @@ between what its seat had seen and what the record allows at that place. The sta
 fault ended a session.
 """
 
+import functools
 import itertools
 import multiprocessing
 import os
 import random
 import sys
-import tempfile
 from collections import Counter
 
 import live
@@ -26,6 +26,9 @@ from plain import Refused
 from program import ROOMS, ask
 from records import Replay
 from sessions import COMMANDS, Exchange, Session
+
+import harness
+from harness import Report, must
 
 CLIENTS = 16
 STEP = 8192
@@ -62,25 +65,26 @@ class Part:
     def __init__(self, history, number, shape, script, told):
         self.history, self.left, self.told = history, history.of(number), told
         self.reader = Session(Exchange(shape), number, script)
-        self.shape, self.seen, self.readings = shape, 0, 0
+        self.shape, self.seen = shape, 0
 
     def entry(self, call):
         """The reply of the session's next entry, which is that of this call."""
+        must(bool(self.left), f"the session asked {call!r}, and the record ends before")
         _, found, reply = self.left.pop(0)
-        assert found == call, f"the record has {found!r}, and the session asked {call!r}"
+        must(found == call, f"the record has {found!r}, and the session asked {call!r}", "entries")
         self.seen = max(self.seen, value_of(reply))
         return reply
 
     def reading(self, line):
         """Judges a reading, which is given back."""
         words = line.split()
-        assert words[:2] == ["progress", "run"] and words[3] == "done", f"{line!r} is no reading"
+        is_reading = words[:2] == ["progress", "run"] and words[3] == "done"
+        must(is_reading, f"{line!r} is no reading")
         value = STEP * int(words[2]) + int(words[4])
         place = self.left[0][0] if self.left else len(self.history.entries)
-        assert (
-            self.seen <= value <= self.history.greatest[place]
-        ), f"{line!r} isn't between {self.seen} and {self.history.greatest[place]}"
-        self.seen, self.readings = value, self.readings + 1
+        least, most = self.seen, self.history.greatest[place]
+        must(least <= value <= most, f"{line!r} isn't between {least} and {most}", "readings")
+        self.seen = value
         return line
 
     def reply(self, line, told):
@@ -126,16 +130,14 @@ class Part:
             reply = self.reply(line, told[0] if told else "")
             if reply is None:
                 break
-            if not told or told.pop(0) != reply:
-                raise AssertionError(
-                    f"{line!r} has {reply!r}, and the session was told {self.told}"
-                )
+            why = f"{line!r} has {reply!r}, and the session was told {self.told}"
+            must(told[:1] == [reply], why, "replies")
+            del told[0]
             if reply == "bye":
                 break
         ended = [f"ended {self.reader.ended}"] if self.reader.ended else []
-        assert (
-            told == ended and not self.left
-        ), f"{told} was told and {self.left} entered behind the end {ended}"
+        why = f"{told} was told and {self.left} entered behind the end {ended}"
+        must(told == ended and not self.left, why, "sessions to their ends")
 
 
 def parts_of(text):
@@ -155,26 +157,19 @@ def read(name):
 
 
 def judge_round(shape, scripts, told, status, room):
-    """Judges what the sessions were told, their record and their image: the entries,
-    and how many readings there were."""
-    assert status == int(
-        any(line.startswith("ended ") for lines in told.values() for line in lines)
-    ), "the status doesn't say whether a fault ended a session"
-    replay = Replay(read(f"{room}/record"), shape)
-    assert replay.ended and replay.exchange.image() == read(
-        f"{room}/left"
-    ), "the record leads to another image"
+    """Judges what the sessions were told, their record and their image: the entries."""
+    has_fault = any(line.startswith("ended ") for lines in told.values() for line in lines)
+    must(status == int(has_fault), f"status {status} doesn't say whether a fault ended a session")
+    replay, image = Replay(read(f"{room}/record"), shape), read(f"{room}/left")
+    is_same = replay.ended and replay.exchange.image() == image
+    must(is_same, "the record leads to another image", "images by plain Python")
     again = ask("replay", f"{room}/record")
-    assert (again.out, again.status) == (
-        read(f"{room}/left"),
-        0,
-    ), f"`replay` leads to another image: {again.err!r}, status {again.status}"
-    history, readings = History(replay.entries), 0
+    why = f"`replay` leads to another image: {again.err!r}, status {again.status}"
+    must((again.out, again.status) == (image, 0), why, "images by `replay`")
+    history = History(replay.entries)
     for session, script in enumerate(scripts):
-        part = Part(history, session, shape, script, told[session])
-        part.judge()
-        readings += part.readings
-    return replay.entries, readings
+        Part(history, session, shape, script, told[session]).judge()
+    return replay.entries
 
 
 def serve(shape, names, scripts, *options):
@@ -200,55 +195,41 @@ def host(shape, names, scripts, draw, *options):
     )
 
 
-def try_round(number):
-    """One round: how often each kind of reply came, how many readings there were, whether clients
-    were live, and what is wrong, if something is."""
+def try_round(number, replies):
+    """One round, of whose replies the first words are counted."""
     draw = random.Random(f"clients {number}")
     shape = (draw.randint(2, plain.MODULES), draw.randint(2, 4), draw.randint(1, 8))
     scripts = [spoil.crowd_script(draw, shape) for _ in range(CLIENTS)]
-    with tempfile.TemporaryDirectory(dir=ROOMS) as room:
-        names, how = (
-            [f"{room}/client{session}" for session in range(CLIENTS)],
-            "{}x{}x{}".format(*shape),
-        )
+    with harness.room("clients", where=ROOMS) as room:
+        names = [f"{room}/client{session}" for session in range(CLIENTS)]
+        words = "{}x{}x{}".format(*shape)
         kept = ["--record", f"{room}/record", "--image-out", f"{room}/left", "--workers", "2"]
-        is_live = number % 5 == 4
-        answer, told = (
-            host(how, names, scripts, draw, *kept) if is_live else serve(how, names, scripts, *kept)
-        )
-        try:
-            entries, readings = judge_round(shape, scripts, told, answer.status, room)
-        except Exception as why:
-            return (
-                Counter(),
-                0,
-                is_live,
-                f"round {number}: {why!r}: {answer.err!r}, status {answer.status}",
-            )
-    return Counter(reply.split()[0] for _, _, reply in entries), readings, is_live, None
+        if is_live := number % 5 == 4:
+            answer, told = host(words, names, scripts, draw, *kept)
+        else:
+            answer, told = serve(words, names, scripts, *kept)
+        entries = judge_round(shape, scripts, told, answer.status, room)
+        replies.update(reply.split()[0] for _, _, reply in entries)
+        must(len(told) == CLIENTS, "a client is missing", "live rounds" if is_live else "rounds")
+
+
+def report_of(number):
+    """What comes of a round, and how often each kind of reply came."""
+    replies = Counter()
+    case = functools.partial(try_round, number, replies)
+    return harness.attempt("clients", f"round {number}", case), replies
 
 
 def main():
-    rounds = int(sys.argv[1]) if len(sys.argv) > 1 else 1000
-    replies, readings, live_ones, wrong = Counter(), 0, 0, []
+    rounds = int(sys.argv[1]) if len(sys.argv) > 1 else 250
+    report, replies = Report("clients"), Counter()
     with multiprocessing.Pool(len(os.sched_getaffinity(0))) as pool:
-        for found, seen, is_live, why in pool.imap_unordered(try_round, range(rounds)):
+        for own, found in pool.imap_unordered(report_of, range(rounds)):
+            report.add(own)
             replies.update(found)
-            readings += seen
-            live_ones += is_live
-            if why:
-                wrong.append(why)
-    print(
-        f"clients: {rounds} rounds of {CLIENTS}, {live_ones} of them live, {replies.total()} "
-        f"entries, {readings} readings"
-    )
-    for name, times in sorted(replies.items()):
-        print(f"clients:   {times:6} {name}")
-    for why in wrong[:5]:
-        print(f"clients: WRONG: {why}")
-    print(f"clients: {len(wrong)} wrong")
-    return 1 if wrong else 0
+    print("clients:", ", ".join(f"{times} {name}" for name, times in sorted(replies.items())))
+    report.finish()
 
 
 if __name__ == "__main__":
-    sys.exit(main())
+    main()

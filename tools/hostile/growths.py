@@ -28,7 +28,6 @@ import os
 import re
 import struct
 import sys
-import tempfile
 from collections import Counter, namedtuple
 
 import plain
@@ -36,6 +35,9 @@ import records
 import sessions
 from program import EXCHANGE, ROOMS, TOP, ask
 from sealed import sealed
+
+import harness
+from harness import Report
 
 LIBRARY = os.path.abspath(sys.argv[-1])
 CALLS = f"{TOP}/crates/hostile_use/out/hostile_use"
@@ -127,7 +129,9 @@ FILES = {
 }  # fmt: skip
 # What `talk` refuses whatever was done before.
 FILES["unknown"] = "plan 7\nrun 8\nshow 9\npeek 2 80000800\npeek 0 80000801\nhello\ndrop 3\n"
-FILES["pairs"] = "batch 64\n" + "".join(f"push 0 {block} 1 {block}\n" for block in range(64))
+FILES["pairs"] = "batch 128\n" + "".join(
+    f"push 0 {block} 1 {block}\npush 2 {block} 3 {block}\n" for block in range(64)
+)
 FILES["turned"] = "batch 32\n" + "".join(
     f"push {module} 0 {31 - module} 1\n" for module in range(32)
 )
@@ -135,14 +139,14 @@ FILES["both"] = FILES["pairs"] + "plan 1\nrun 1\n" + FILES["turned"] + "plan 2\n
 # The one that is standard input, and that of `talk`.
 INPUT, TALKED = "three", "unknown"
 
-# How often 64 workers fork where each start of a thread is refused. 64 transfers of one link are
-# halved down to one each, and the settings of one aren't; 32 transfers that share no link aren't,
-# and their setting is. `apply` runs nothing, and forks nothing.
+# How often 64 workers fork where each start of a thread is refused. 64 transfers of each of two
+# pairs of modules are halved down to one each, and so is each of their 64 settings; 32 transfers
+# that share no link aren't, and their setting is. `apply` runs nothing, and forks nothing.
 FORKS = [
     (["plan", "pairs"], 63), (["switch", "pairs"], 63), (["drive", "pairs", "gone"], 63),
-    (["run", "2x64x1", "pairs"], 63),
-    (["apply", "2x64x1", "pairs", "image"], 0), (["run", "32x2x1", "turned"], 31),
-    (["serve", "32x64x1", "both"], 63 + 31),
+    (["run", "4x64x1", "pairs"], 63 + 64),
+    (["apply", "4x64x1", "pairs", "image"], 0), (["run", "32x2x1", "turned"], 31),
+    (["serve", "32x64x1", "both"], 63 + 64 + 31),
 ]  # fmt: skip
 
 COMMANDS = [
@@ -553,45 +557,40 @@ def sweep_host(client, *options):
     return swept
 
 
-def tell(swept):
-    """Prints a line for what was swept, and gives how many runs there were
-    and how many of them went wrong."""
+def tell(report, kind, swept):
+    """Prints a line for what was swept, and judges it."""
     parts = [f"{swept.growths} growths"] + [
         f"{what} {times} times" for what, times in sorted(swept.found.items())
     ]
     if swept.unstarted:
         parts.append(f"{swept.unstarted} threads not started")
     print(f"growths: {swept.name}: {', '.join(parts)}")
-    return (
-        swept.found.total(),
-        sum(times for what, times in swept.found.items() if what.startswith("WRONG")),
-    )
+    report.judge(swept.name, [it for it in swept.found if it.startswith("WRONG")], kind)
+    report.kinds["runs"] += swept.found.total()
 
 
 def main():
+    report = Report("growths")
     names = [line.split(": ")[0] for line in ask(program=CALLS).out.decode().splitlines()]
-    with tempfile.TemporaryDirectory(dir=ROOMS) as room:
-        os.chdir(room)
+    with harness.room("growths", enter=True, where=ROOMS):
         for name, text in FILES.items():
-            with open(name, "w") as file:
+            with open(name, "w", encoding="utf-8") as file:
                 file.write(text)
         with multiprocessing.Pool(len(os.sched_getaffinity(0))) as pool:
-            told = [tell(it) for it in pool.imap(sweep_call, names)]
-            told.append(tell(sweep_closing(["clients", "2x2x2", "script"])))
-            told += [tell(it) for it in pool.imap(sweep_command, COMMANDS)]
-        told += [tell(count_forks(*it)) for it in FORKS]
-        told += [tell(it) for it in [compare_starts(), sweep_help_by_name(), sweep_host("caller")]]
-        told.append(
-            tell(sweep_host("keeper", "--record", "host-record", "--image-out", "host-left"))
-        )
-        os.chdir("/")
-    wrong = sum(it[1] for it in told)
-    print(
-        f"growths: {len(names) + 1} calls, {len(COMMANDS) + len(FORKS) + 3} command lines, "
-        f"{sum(it[0] for it in told)} runs, {wrong} wrong"
-    )
-    return 1 if wrong or not names else 0
+            for swept in pool.imap(sweep_call, names):
+                tell(report, "calls", swept)
+            for swept in pool.imap(sweep_command, COMMANDS):
+                tell(report, "command lines", swept)
+        tell(report, "calls", sweep_closing(["clients", "2x2x2", "script"]))
+        for words, forks in FORKS:
+            tell(report, "commands whose forks are counted", count_forks(words, forks))
+        tell(report, "command lines", compare_starts())
+        tell(report, "command lines", sweep_help_by_name())
+        kept = ["--record", "host-record", "--image-out", "host-left"]
+        for words in ["caller"], ["keeper", *kept]:
+            tell(report, "command lines", sweep_host(*words))
+    report.finish()
 
 
 if __name__ == "__main__":
-    sys.exit(main())
+    main()

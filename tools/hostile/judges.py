@@ -1,12 +1,15 @@
 #!/usr/bin/env python3
 """What judges the program is handed wrong things: judges.py
 
-Each judge of the plain implementation, of rows, of documents, of tables, of edits, of `rt ci` and
-of how much was tried, the scripts of examples that add up prices and make patterns, and the head of
-the test command take what is right, and deny each of the wrong things beside it.
+Each judge of the plain implementation, of rows, of documents, of tables, of `rt ci` and of how much
+was tried, the scripts of examples that add up prices and make patterns, and the head of the test
+command take what is right, and deny each of the wrong things beside it. Tools that need no program
+are run in a copy of the repository in which one text is wrong, and some others with a program that
+answers wrongly.
 """
 
 import contextlib
+import functools
 import io
 import os
 import random
@@ -31,17 +34,21 @@ import switching
 import texts as spoilt
 from program import EXCHANGE, TOP, Ended
 
-sys.path += [f"{TOP}/{folder}" for folder in ("examples", "tools/c", "tools/rack")]
+sys.path += [f"{TOP}/{folder}" for folder in ("examples", "tools/c", "tools/hosts", "tools/rack")]
 import calls
 import check_prices
+import flips
+import moments
+import states
 import tables
 
-sys.path[:0] = [f"{TOP}/tools", f"{TOP}/tools/rows"]
+sys.path.insert(0, f"{TOP}/tools/rows")
 import harness
 import reading
+from harness import Report
 
-JUDGES = ("edits", "least", "python/run", "rack/run", "rows/run", "said", "texts/run")
-edits, least, python, rack, rows, said, texts = (
+JUDGES = ("least", "python/run", "rows/run", "said", "texts/run")
+least, python, rows, said, texts = (
     SimpleNamespace(**run_path(f"{TOP}/tools/{name}.py")) for name in JUDGES
 )
 
@@ -76,8 +83,9 @@ IDLE = ["batch 3", "push 0 0 1 0", "push 0 1 1 1", "push 2 0 3 0"]
 
 # What planning says where instructions can't be counted.
 LACKS, PLANNED = (
-    "planning: valgrind is missing, so no instructions were counted\n" + "steps, at most\n" * 10,
-    "planning: 29 batches planned, 32 figures judged\n",
+    "planning: valgrind is missing, so no instructions were counted\n" + "steps, at most\n" * 10
+    + "steps: 18 figures compared\n",
+    "planning: 29 batches planned, 74 figures judged\n",
 )
 
 # What comes of a line of a row, on both streams.
@@ -205,7 +213,7 @@ def is_told(told, script=SCRIPT):
     """Whether a session of a script may be told this beside that record."""
     try:
         clients.Part(clients.History(RAN), 0, (2, 1, 1), script, told.split(", ")).judge()
-    except AssertionError:
+    except harness.Wrong:
         return False
     return True
 
@@ -215,7 +223,7 @@ def is_ended(told, status):
     which isn't there."""
     try:
         clients.judge_round((2, 1, 1), [], {0: told}, status, "/none")
-    except AssertionError:
+    except harness.Wrong:
         return False
     except FileNotFoundError:
         return True
@@ -231,17 +239,22 @@ def is_left(text, scripts=(b"batch 1\npush 0 0 1 0\nplan 1\n", b"bye\n")):
     return sessions.told_without_memory(b"2x1x1", scripts, text) is not None
 
 
+def is_well_by(tool, call, *given):
+    """Whether a call of a tool compares something, and has nothing to say."""
+    tool["REPORT"] = report = Report("judges", is_silent=True)
+    call(*given)
+    return report.tried > 0 and not report.wrong
+
+
 def is_expected(ended, wanted):
     """Whether a stream may end so."""
-    with contextlib.redirect_stdout(io.StringIO()):
-        streams.expect("judges", ended, wanted)
-    return not streams.problems or bool(streams.problems.clear())
+    return is_well_by(vars(streams), streams.expect, "judges", ended, wanted)
 
 
 def is_tried(well):
     """Whether a spoilt text is well."""
     spoilt.KINDS["judges"] = lambda _: (well, b"a", [], b"b")
-    return not spoilt.try_some(("judges", [0]))[2]
+    return not spoilt.try_some(("judges", [0]))[2].wrong
 
 
 def is_table(text, *changes):
@@ -274,18 +287,10 @@ def is_told_well(text, told=None):
     return spoilt.is_well_told(answer, asked, line, lambda _: line)
 
 
-def is_noted(tool, well):
-    """Whether a tool notes nothing wrong."""
-    with contextlib.redirect_stderr(io.StringIO()):
-        tool.expect("judges", well)
-    return not tool.wrong or bool(tool.wrong.clear())
-
-
 def is_printed(script):
     """Whether a program may do this that is to print `a`."""
-    with contextlib.redirect_stderr(io.StringIO()):
-        python.expect_run("judges", "a\n", "sh", "-c", script)
-    return not python.wrong or bool(python.wrong.clear())
+    call = python.expect_run
+    return is_well_by(call.__globals__, call, "judges", "a\n", "sh", "-c", script)
 
 
 def is_handed(*left):
@@ -295,85 +300,154 @@ def is_handed(*left):
         raise ValueError("no C004 has this state")
 
     sys.modules["exchange"] = SimpleNamespace(C004=refuse, LinkEnd=refuse)
-    python.try_states.__globals__["hand"] = lambda number: [left, left]
-    with contextlib.redirect_stderr(io.StringIO()):
-        python.try_states(1)
-    del sys.modules["exchange"]
-    return not python.wrong or bool(python.wrong.clear())
+    tool = python.try_states.__globals__
+    tool["hand"] = lambda number: [left, left]
+    return is_well_by(tool, python.try_states, 1)
 
 
 def is_called(answer, why):
     """Whether a call of a library may answer and tell this where a schedule lacks transfer 1."""
-    made, given = (
-        SimpleNamespace(ask=lambda *_: answer, why=lambda *_: why),
-        [THREE, PLAN.replace(b"setting 1", b"setting")],
-    )
-    with tempfile.TemporaryDirectory() as room:
-        os.chdir(room)
-        is_same = calls.is_same(made, "check", given)
-        os.chdir("/")
-    return is_same
+    made = SimpleNamespace(ask=lambda *_: answer, why=lambda *_: why)
+    report = Report("judges", is_silent=True)
+    with harness.room("judges", enter=True):
+        calls.compare(report, made, "check", [THREE, PLAN.replace(b"setting 1", b"setting")])
+    return report.tried == 1 and not report.wrong
+
+
+def put(top, files):
+    """Puts texts into the files of a folder."""
+    for name, text in files.items():
+        (top / name).parent.mkdir(parents=True, exist_ok=True)
+        (top / name).write_text(text, encoding="utf-8")
+
+
+def is_well_in(files, try_it, *given):
+    """Whether the tool of documents has nothing to say of a repository of these files."""
+    report = Report("judges", is_silent=True)
+    with harness.room("judges") as top:
+        put(top, files)
+        (top / "tools/test.sh").chmod(0o755) if "tools/test.sh" in files else None
+        texts.main.__globals__.update(REPOSITORY=top, CRATES=top / "crates")
+        texts.parts.cache_clear()
+        texts.code_of.cache_clear()
+        try_it(report, *given)
+    return report.tried > 0 and not report.wrong
 
 
 def is_page(text):
     """Whether a document is right that has two links and one command, beside source code."""
-    os.makedirs(f"{TOP}/out", exist_ok=True)
-    with (
-        tempfile.TemporaryDirectory(dir=f"{TOP}/out") as folder,
-        contextlib.redirect_stdout(io.StringIO()),
-    ):
-        for name, written in ("page.md", text), ("code.rt", "// one\nfn one()\n"):
-            with open(f"{folder}/{name}", "w") as file:
-                file.write(written)
-        page = os.path.relpath(f"{folder}/page.md", TOP)
-        return [texts.try_links(page), texts.try_document(page)] == [(2, 0), (1, 0)]
+    files = {"page.md": text, "code.rt": "// one\nfn one()\n"}
+    return all(is_well_in(files, it, "page.md") for it in (texts.try_links, texts.try_document))
 
 
 def is_comment(words):
     """Whether a crate may have this comment, beside code of its own and of another crate."""
-    with tempfile.TemporaryDirectory() as room, contextlib.redirect_stdout(io.StringIO()):
-        for name, text in (
-            ("one", f"//! {words}\nuse other::Thing;\npub enum One {{\n    Two,\n}}\n"),
-            ("other", "pub struct Thing;\nimpl Thing {\n    pub fn make() {}\n}\n"),
-        ):
-            os.makedirs(f"{room}/{name}/src")
-            with open(f"{room}/{name}/src/lib.rt", "w") as file:
-                file.write(text)
-        return texts.try_comments("one", room) == (1, 0)
+    files = {
+        "crates/one/src/lib.rt": f"//! {words}\nuse other::Thing;\npub enum One {{\n    Two,\n}}",
+        "crates/other/src/lib.rt": "pub struct Thing;\nimpl Thing {\n    pub fn make() {}\n}\n",
+    }
+    return is_well_in(files, texts.try_comments, "one")
 
 
 def is_named(name=None, old=None, new=None):
     """Whether all files name one test command, where one of them has another text."""
-    with tempfile.TemporaryDirectory() as room, contextlib.redirect_stdout(io.StringIO()):
-        for it in ("tools/test.sh", *texts.TESTS):
-            os.makedirs(os.path.dirname(f"{room}/{it}"), exist_ok=True)
-            shutil.copy(f"{TOP}/{it}", f"{room}/{it}")
-        if name:
-            with open(f"{room}/{name}", "r+") as file:
-                text = file.read()
-                assert old in text
-                file.seek(0)
-                file.truncate()
-                file.write(text.replace(old, new))
-        return texts.test_commands(room) == (len(texts.TESTS), 0)
+    files = {it: Path(TOP, it).read_text("utf-8") for it in ("tools/test.sh", *texts.TESTS)}
+    if name:
+        assert old in files[name]
+        files[name] = files[name].replace(old, new)
+    return is_well_in(files, texts.try_test_commands)
 
 
-def can_be_made(old, before="let a = 1;\nlet b = 1;\n"):
-    """Whether an edit that takes this text can be made in a file."""
-    with tempfile.TemporaryDirectory() as crate:
-        os.mkdir(f"{crate}/must-fail")
-        for name, text in (
-            ("lib.rt", before),
-            ("must-fail/an.edit", f"file: lib.rt\nold: {old}\nnew: let c = 2;\n"),
-        ):
-            with open(f"{crate}/{name}", "w") as file:
-                file.write(text)
-        return not [*edits.faults(f"{crate}/must-fail/an.edit")]
+def is_helped(example):
+    """Whether a command's help may begin with this example."""
+    program = f"#!/bin/sh\n[ ! $2 ] || printf 'Example:\\n  {example}\\n\\nUsage\\n'\n"
+    with harness.room("judges") as room:
+        put(room, {"program": program})
+        (room / "program").chmod(0o755)
+        texts.main.__globals__["PROGRAM"] = room / "program"
+        return all(found == wanted for found, wanted in texts.examples_of_help("plan"))
+
+
+@functools.cache
+def copied():
+    """A copy of the repository, as git tracks it, with what was edited since."""
+    copy = tempfile.TemporaryDirectory(prefix="judges-")
+    listed = subprocess.run(["git", "-C", TOP, "ls-files", "-z"], stdout=subprocess.PIPE).stdout
+    for name in os.fsdecode(listed).split("\0")[:-1]:
+        os.makedirs(os.path.dirname(f"{copy.name}/{name}"), exist_ok=True)
+        shutil.copy(f"{TOP}/{name}", f"{copy.name}/{name}", follow_symlinks=False)
+    for words in ["init", "-q"], ["add", "-A"]:
+        subprocess.run(["git", "-C", copy.name, *words], check=True)
+    return copy
+
+
+def is_right(tool, name=None, pattern="", new=""):
+    """Whether a tool that needs no program ends well in a copy of the repository, in which another
+    text is in the place of the first that has this pattern."""
+    copy = Path(copied().name)
+    before = (copy / name).read_text(encoding="utf-8") if name else ""
+    if name:
+        after, count = re.subn(pattern, new, before, count=1)
+        assert count == 1 and after != before, f"{name} has no {pattern}"
+        (copy / name).write_text(after, encoding="utf-8")
+    run = subprocess.run(
+        [copy / tool], stdout=subprocess.DEVNULL, stderr=subprocess.STDOUT,
+        env={**os.environ, "EXCHANGE": EXCHANGE},
+    )  # fmt: skip
+    if name:
+        (copy / name).write_text(before, encoding="utf-8")
+    return run.returncode == 0
+
+
+def is_by(tool, first="exec"):
+    """Whether a tool ends well with a program that does this first of all."""
+    with harness.room("judges") as room:
+        put(room, {"exchange": f'#!/bin/sh\n{first} "{EXCHANGE}" "$@"\n'})
+        (room / "exchange").chmod(0o755)
+        run = subprocess.run(
+            [sys.executable, *f"{TOP}/{tool}".split()], stdout=subprocess.DEVNULL,
+            stderr=subprocess.STDOUT, env={**os.environ, "EXCHANGE": room / "exchange"},
+        )  # fmt: skip
+    return run.returncode == 0
+
+
+def is_resumed(told, left=b"text"):
+    """Whether `replay` may print this of a spoilt record, and a session leave its file so."""
+    report = Report("judges", is_silent=True)
+    flips.ask = lambda *words: Ended(*told) if words[0] == "replay" else Ended(b"", b"", 0)
+    with harness.room("judges", enter=True):
+        flips.try_record(report, "it", b"text", (b"image", b"line", 0), left, [], "both")
+    return report.tried == 2 and not report.wrong
+
+
+def is_replayed(image, status=0):
+    """Whether `replay` may print these words of a record, and have this status."""
+    moments.ask = lambda *_: (image, b"", status)
+    record = SimpleNamespace(exchange=SimpleNamespace(image=lambda: b"words"))
+    try:
+        moments.judge_replay("/none", record)
+    except harness.Wrong:
+        return False
+    return True
+
+
+def is_state(found, wanted, answers=b"\0"):
+    """Whether a call over states may give this, or `c004` these answers to an enquiry."""
+    states.Calls = lambda _: SimpleNamespace(end=lambda: True)
+    states.stream_to_switch = lambda *_: (b"\2\0", [found, answers], [wanted, answers])
+    states.stream_to_switch.__name__ = "stream"
+    states.KINDS = [states.stream_to_switch]
+    return not states.try_some("", 0, 1).wrong
+
+
+# A program that prints a line more where it replays a record.
+MORE = '[ "$1" != replay ] || echo; exec'
 
 
 def is_enough(text, tool="tools/rows/run.py"):
     """Whether a tool that says this has tried enough, and found nothing wrong."""
-    return not [*least.faults(tool, text)]
+    with contextlib.redirect_stdout(io.StringIO()):
+        return not least.faults(tool, text)
 
 
 def is_said(waits, threads, *lines):
@@ -411,7 +485,7 @@ def is_tested(script, fails="", crates="a: std\n"):
     with tempfile.TemporaryDirectory() as room:
         with open(f"{TOP}/tools/{script}") as file:
             called = {
-                *re.findall(r"(?m)^(?:try (?:live )?)?((?:tools|bench|examples)/\S+)", file.read()),
+                *re.findall(r"(?m)^(?:try )?((?:tools|bench|examples)/\S+)", file.read()),
                 "rt",
                 "exchange",
                 "tools/least.py",
@@ -642,8 +716,6 @@ CASES = [
         (b"batch 1\npush 0 0 1\n",),
         [(b"batch 1\npush 0 0 1\n", b""), (b"batch 1\npush 0 0 0 0\n",)],
     ),
-    (is_noted, (python, True), [(python, False), (python, "")]),
-    (is_noted, (rack, True), [(rack, False), (rack, None)]),
     (is_printed, ("echo a",), [("echo b",), ("echo a; exit 1",), ("echo a; echo b >&2",)]),
     (is_handed, (1, 1), [(1, 2)]),
     (is_made, ("ring.txt",), [("all-to-all.txt",), ("patterns/halo.svg",)]),
@@ -752,10 +824,66 @@ CASES = [
             (1, "Threads+Wait", "only by a limit"),
         ],
     ),
+    *[
+        (is_right, (tool,), [(tool, *it) for it in others])
+        for tool, *others in (
+            (
+                "tools/edits.py",
+                ("crates/crossbar/must-fail/apply_half_join.edit", "(?m)^old: ", "old: not "),
+                (
+                    "crates/crossbar/must-fail/apply_half_join.edit",
+                    "(?m)^old: (.*)\nnew: .*", r"old: \1\nnew: \1",
+                ),
+            ),
+            (
+                "tools/steps.py",
+                ("crates/euler_split/src/halving.rt", r"steps\.tick\(\);", ""),
+                ("tools/steps.txt", r"(?m)^(\w[^:]*): ", r"\1*9: "),
+            ),
+            (
+                "tools/texts/names.py",
+                ("crates/crossbar/specs/Lib.antt", r"\Z", "\nabbrev pub IsSpellable = 1\n"),
+            ),
+            ("tools/texts/widths.py", ("README.md", r"\Z", "wide" * 26 + "\n")),
+            (
+                "tools/texts/promises.py",
+                ("docs/PROMISES.md", r"```antt\n", "```antt\nabbrev pub No = 1\n"),
+                ("docs/PROMISES.md", r"\((\d+) lines\)", r"(\g<1>0 lines)"),
+                ("docs/PROMISES.md", r"rest on (\S+) lines", r"rest on 1\1 lines"),
+                ("crates/link_graph/src/laws.rt", r"\Z", "\npub fn nobody_names_it() {}\n"),
+            ),
+            (
+                "tools/c/defines.py",
+                ("include/exchange.h", r"(?m)^(#define EXCHANGE_\w+) (\d+)$", r"\1 9\2"),
+                ("include/exchange.h", r"at most (\d+) bytes", r"at most \g<1>0 bytes"),
+                ("include/exchange.h", r"uint8_t (exchange_\w+\()", r"void \1"),
+                ("python/exchange/__init__.py", r'(_NUMBERS = \{\s*"\w+": )', r"\g<1>9"),
+                ("tools/c/calls.py", r'"plan": 0', '"plan": 10'),
+                ("tools/c/states.py", r"0, 1, 4, 5,", "0, 1, 5, 4,"),
+            ),
+            (
+                "bench/planning/steps.py",
+                ("bench/planning/steps.py", r"32 \* n \* k \+ 11 \* n \+ 4", "n + 0"),
+            ),
+        )
+    ],
+    (is_by, ("tools/hostile/clients.py 1",), [("tools/hostile/clients.py 1", MORE)]),
     (
-        can_be_made,
-        ("let a = 1;",),
-        [("let c = 1;",), ("= 1;",), ("let a = 1;", ""), ("let c = 2;", "let c = 2;\n")],
+        is_resumed,
+        ((b"image", b"line", 0),),
+        [
+            ((b"other", b"line", 0),),
+            ((b"image", b"other", 0),),
+            ((b"image", b"line", 1),),
+            ((b"image", b"line", 0), b"other"),
+        ],
+    ),
+    (is_replayed, (b"words",), [(b"other",), (b"words", 1)]),
+    (is_state, (1, 1), [(1, 2), (1, 1, b"\1"), (1, 1, b"")]),
+    (
+        is_helped,
+        ("./exchange plan",),
+        [("./exchange plan; exit 1",), ("exit 0",), ("./exchange",)],
     ),
     (
         is_table,
@@ -830,18 +958,14 @@ CASES = [
 
 
 def main():
-    wrong, denied = 0, 0
+    report = Report("judges")
     for judge, right, others in CASES:
-        lets = [it for it in others if judge(*it)]
-        denied += len(others) - len(lets)
-        wrong += len(lets) + (not judge(*right))
-        for it in [] if judge(*right) else [right]:
-            print(f"judges: WRONG: {judge.__name__} denies {it}")
-        for it in lets:
-            print(f"judges: WRONG: {judge.__name__} takes {it}")
-    print(f"judges: {len(CASES)} judges, {denied} wrong things denied, {wrong} wrong")
-    return 1 if wrong or not denied else 0
+        report.check(f"{judge.__name__} of {right}", bool(judge(*right)), True, "judges")
+        for it in others:
+            what = f"{judge.__name__} of {it}"
+            report.check(what, bool(judge(*it)), False, "wrong things denied")
+    report.finish()
 
 
 if __name__ == "__main__":
-    sys.exit(main())
+    main()

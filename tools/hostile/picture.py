@@ -10,10 +10,10 @@ from plain import Refused
 from program import TOP
 
 STYLE_FILE = f"{TOP}/crates/schedule_picture/src/style.rt"
-# Settings that stand side by side before the labels come again, and the sizes of what is drawn.
+# Settings that stand side by side before the next ones stand below, and the sizes of what is drawn.
 PANEL = 32
-COLUMN, HALF, ROW, LABELS = 32, 20, 48, 128
-ABOVE, BESIDE, BELOW, LEAST_WIDTH = 88, 16, 112, 760
+COLUMN, HALF, ROW, LABELS, NUMBERS = 32, 28, 64, 128, 24
+ABOVE, BESIDE, BELOW, LEAST_WIDTH = 64, 16, 120, 760
 
 
 def fixed_text(name):
@@ -49,14 +49,19 @@ class Picture:
         self.modules = sorted({transfer[side] for transfer in transfers for side in (1, 3)})
         self.panels = [range(at, min(at + PANEL, len(shown))) for at in range(0, len(shown), PANEL)]
 
-    def top(self, module, end):
-        """Where a link's half of a row begins, link 0 above."""
-        return ABOVE + ROW * self.modules.index(module) + (HALF if end == 3 else 0)
+    def begin(self, panel):
+        """Where a panel begins, from the top: each has the numbers of its columns, and all rows."""
+        return ABOVE + panel * (NUMBERS + ROW * len(self.modules))
 
-    def left(self, column):
-        """Where a column begins: left of it stand the labels of its panel
-        and of all panels before."""
-        return BESIDE + LABELS * (1 + column // PANEL) + COLUMN * column
+    def top(self, panel, module, end):
+        """Where a link's half of a row begins in a panel, link 0 above."""
+        row = self.begin(panel) + NUMBERS + ROW * self.modules.index(module)
+        return row + (HALF if end == 3 else 0)
+
+    @staticmethod
+    def left(column):
+        """Where a column begins: left of its panel's columns stand the labels."""
+        return BESIDE + LABELS + COLUMN * (column % PANEL)
 
     def heading(self):
         """How many transfers and settings there are, and whether these are the fewest."""
@@ -79,8 +84,9 @@ class Picture:
         return f", setting {first} shown" if first == last else f", shown {first} to {last}"
 
     def text(self):
-        legend = ABOVE + ROW * len(self.modules)
-        width = max(LEAST_WIDTH, 2 * BESIDE + LABELS * len(self.panels) + COLUMN * len(self.shown))
+        legend = self.begin(len(self.panels))
+        columns = min(len(self.shown), PANEL)
+        width = max(LEAST_WIDTH, 2 * BESIDE + LABELS + COLUMN * columns)
         height = legend + BELOW
         heading, note = self.heading(), self.note()
         parts = [
@@ -95,8 +101,15 @@ class Picture:
             ),
             f"<text class='note' x='16' y='58'>{note}</text>\n",
         ]
-        parts += [self.row_part(module, panel) for module in self.modules for panel in self.panels]
-        parts += [number_above(self.left(panel[0]) - 24, "setting") for panel in self.panels]
+        parts += [
+            self.row_part(module, number, panel)
+            for module in self.modules
+            for number, panel in enumerate(self.panels)
+        ]
+        parts += [
+            number_above(BESIDE + 104, self.begin(number), "setting")
+            for number in range(len(self.panels))
+        ]
         parts += [
             self.rule(column, number) + self.column(column, number)
             for column, number in enumerate(self.shown)
@@ -104,23 +117,23 @@ class Picture:
         parts.append(f"<g transform='translate(16,{legend})'>\n{EXPLAINED}</g>\n</svg>\n")
         return "".join(parts)
 
-    def row_part(self, module, panel):
-        """A module's label and the grounds of its two links, in one panel."""
-        labels, top = self.left(panel[0]) - LABELS, self.top(module, 0)
+    def row_part(self, module, number, panel):
+        """A module's label and the grounds of its two links, in the panel of this number."""
+        top = self.top(number, module, 0)
         text = (
-            rectangle(labels + 8, top, 72, 40, module)
-            + writing(labels + 44, top + 24, f"module {module}")
+            rectangle(BESIDE + 8, top, 72, 56, module)
+            + writing(BESIDE + 44, top + 32, f"module {module}")
             + "\n"
         )
         for end in (0, 3):
-            is_busiest, top = (end, module) == self.link, self.top(module, end)
+            is_busiest, top = (end, module) == self.link, self.top(number, module, end)
             text += (
                 f"<g class='{'busiest' if is_busiest else 'lane'}'>"
                 f"<title>{'busiest ' * is_busiest}link {end} module {module}</title>"
             )
             text += (
-                rectangle(labels + LABELS, top, COLUMN * len(panel), HALF)
-                + writing(labels + 104, top + 14, f"link {end}")
+                rectangle(BESIDE + LABELS, top, COLUMN * len(panel), HALF)
+                + writing(BESIDE + 104, top + 18, f"link {end}")
                 + "</g>\n"
             )
         return text
@@ -134,25 +147,26 @@ class Picture:
         ]
         if len(pairs) == 2 and pairs[0] == pairs[1]:
             return ""
+        above, below = self.begin(column // PANEL), self.begin(column // PANEL + 1)
         return (
-            f"<path class='change' d='M{self.left(column)} "
-            f"{ABOVE - 8}V{ABOVE + ROW * len(self.modules) - 8}'/>\n"
+            f"<path class='change' d='M{self.left(column)} {above + NUMBERS - 8}V{below - 8}'/>\n"
         )
 
     def column(self, column, number):
         """A setting's number, and two cells for each of its transfers."""
-        left = self.left(column)
-        return number_above(left + 16, number) + "".join(
-            self.cell(t, end, left) for t in self.settings[number] for end in (0, 3)
+        panel = column // PANEL
+        return number_above(self.left(column) + 16, self.begin(panel), number) + "".join(
+            self.cell(t, end, column) for t in self.settings[number] for end in (0, 3)
         )
 
-    def cell(self, t, end, left):
+    def cell(self, t, end, column):
         """A transfer as one of its two modules sees it: link 0 starts it, link 3 answers it. The
         words of a push leave the module that starts it, those of a pull the one that answers."""
         kind, initiator, own, responder, far = self.transfers[t]
         module, partner = (initiator, responder) if end == 0 else (responder, initiator)
         leaves = (kind == "push") == (end == 0)
-        top, arrow = self.top(module, end), "&#8594;" if leaves else "&#8592;"
+        left, top = self.left(column), self.top(column // PANEL, module, end)
+        arrow = "&#8594;" if leaves else "&#8592;"
         way = {"push": "to", "pull": "from"}[kind]
         text = (
             f"<g><title>transfer {t}: {kind} module {initiator} link 0 block {own} {way} module "
@@ -160,9 +174,9 @@ class Picture:
         )
         return (
             text
-            + rectangle(left + 2, top + 2, 28, 16, partner)
+            + rectangle(left + 2, top + 2, 28, 24, partner)
             + writing(left + 16, top + 14, f"{arrow}{partner}")
-            + "</g>\n"
+            + f"<text class='transfer' x='{left + 16}' y='{top + 24}'>{t}</text></g>\n"
         )
 
 
@@ -177,9 +191,9 @@ def standing_of(transfers, settings, certificate):
         return "not certified"
 
 
-def number_above(middle, words):
-    """What stands above a column, or before the first of a panel."""
-    return f"<text class='number' x='{middle}' y='{ABOVE - 10}'>{words}</text>\n"
+def number_above(middle, top, words):
+    """What stands above a column of a panel that begins there, or before its first."""
+    return f"<text class='number' x='{middle}' y='{top + 14}'>{words}</text>\n"
 
 
 def rectangle(left, top, width, height, module=None):

@@ -3,10 +3,12 @@
 import os
 import select
 import signal
+import sys
 import time
 from collections import namedtuple
 
 TOP = os.path.dirname(os.path.dirname(os.path.dirname(os.path.abspath(__file__))))
+sys.path.insert(0, f"{TOP}/tools")
 EXCHANGE = os.path.abspath(os.environ.get("EXCHANGE") or f"{TOP}/crates/exchange/out/exchange")
 
 # Where folders for files are made that the program syncs: in memory,

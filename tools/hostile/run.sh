@@ -5,8 +5,8 @@
 #   streams   files and streams that can't be read, and streams that can't be written
 #   growths   each growth of memory refused in turn, of the command line and of the calls that it
 #             doesn't make
-#   texts     COUNT spoilt texts of each kind, 10000 where it isn't said, judged by a second
-#             implementation as well. Of 10000 classes.txt has how often each class of answer comes
+#   texts     COUNT spoilt texts of each kind, 2500 where it isn't said, and 10000 before a
+#             release, with those of rare answers, judged by a second implementation as well
 #   clients   COUNT / 10 rounds of sixteen clients at once, whose record both implementations replay
 #
 # Programs that aren't built yet, or are older than their sources, are proved and built first.
@@ -38,8 +38,8 @@ streams=$!
 python3 "$here/growths.py" "$work/refuse.so" || failed+=" growths"
 wait "$streams" || failed+=" streams"
 cat "$work/streams"
-python3 "$here/texts.py" "${1:-10000}" || failed+=" texts"
-python3 "$here/clients.py" $((${1:-10000} / 10)) || failed+=" clients"
+python3 "$here/texts.py" "${1:-2500}" || failed+=" texts"
+python3 "$here/clients.py" $((${1:-2500} / 10)) || failed+=" clients"
 if [ -n "$failed" ]; then
     echo "hostile use: WRONG:$failed"
     exit 1

@@ -6,8 +6,6 @@ import errno
 import os
 import shutil
 import subprocess
-import sys
-import tempfile
 import threading
 
 import notes
@@ -17,6 +15,9 @@ import spoil
 import steady
 import switching
 from program import EXCHANGE, Ended, ask, end, start
+
+import harness
+from harness import Report
 
 THREE_TRANSFERS = b"batch 3\npush 0 0 1 0\npush 0 1 2 0\npush 1 1 2 1\n"
 PLAN = b"settings 2\nsetting 0 2\nsetting 1\nbusiest link 0 module 0\nnamed 0 1\n"
@@ -32,17 +33,15 @@ MOVES = b"moves 1\nmove 0 0 1 0\n"
 NO_MEMORY = Ended(b"refused no memory\n", b"", 1)
 UNWRITTEN = b"exchange: the answer can't be written: "
 
-problems, tried = [], 0
+REPORT = Report("streams")
 
 
 def expect(what, ended, wanted):
-    """Notes whether a run ended as is wanted: a value of Ended, or a test of one."""
-    global tried
-    tried += 1
-    well = wanted(ended) if callable(wanted) else ended == wanted
-    if not well:
-        problems.append(what)
-        print(f"streams: WRONG: {what}: {ended}")
+    """Compares how a run ended with what is wanted: a value of Ended, or a test of one."""
+    if callable(wanted):
+        REPORT.judge(what, [] if wanted(ended) else [str(ended)])
+    else:
+        REPORT.check(what, ended, wanted)
 
 
 def refused(asked, refusal):
@@ -193,7 +192,7 @@ def pipes():
 def directed(moves):
     """What `direct` answers to these moves, which is judged. It may answer any directions that
     halve each module's ends."""
-    with tempfile.TemporaryDirectory() as room:
+    with harness.room("streams") as room:
         with open(f"{room}/moves", "wb") as file:
             file.write(moves)
         answer = ask("direct", f"{room}/moves").out
@@ -204,7 +203,7 @@ def directed(moves):
 def steadily_planned(batch):
     """What `plan --steady` answers to this batch, which is judged.
     It may answer any steady plan."""
-    with tempfile.TemporaryDirectory() as room:
+    with harness.room("streams") as room:
         with open(f"{room}/batch", "wb") as file:
             file.write(batch)
         answer = ask("plan", f"{room}/batch", "--steady").out
@@ -372,8 +371,8 @@ def many_settings():
 WRITTEN_TWICE = (
     b"exchange: settings:33: transfers 0 and 31 both write block 0 of module 1 (lines 2 and 33)\n"
 )
-TOO_WIDE = (
-    b"exchange: settings.plan: the picture is 147488 pixels wide, and common tools draw at most "
+TOO_HIGH = (
+    b"exchange: settings.plan: the picture is 265400 pixels high, and common tools draw at most "
     b"32767; --settings draws some settings alone\n"
 )
 
@@ -383,7 +382,7 @@ def long_answers():
     ended = ask("draw", "settings", "settings.plan")
     expect(
         "a long picture",
-        ended == Ended(picture.answer_draw(*many_settings(), told=ended.out), TOO_WIDE, 0),
+        ended == Ended(picture.answer_draw(*many_settings(), told=ended.out), TOO_HIGH, 0),
         True,
     )
     batch, schedule = many_settings()
@@ -527,8 +526,7 @@ def short_writes():
 
 
 def main():
-    with tempfile.TemporaryDirectory() as room:
-        os.chdir(room)
+    with harness.room("streams", enter=True) as room:
         many = [f"push {m} {b} {(m + 1) % 16} {b + 32}\n" for m in range(16) for b in range(32)]
         many = f"batch {len(many)}\n{''.join(many)}".encode()
         texts = [
@@ -561,10 +559,8 @@ def main():
         closed_and_full_output()
         readers_that_go_away()
         short_writes()
-        os.chdir("/")
-    print(f"streams: {tried} tried, {len(problems)} wrong")
-    return 1 if problems else 0
+    REPORT.finish()
 
 
 if __name__ == "__main__":
-    sys.exit(main())
+    main()

@@ -1,18 +1,19 @@
 #!/usr/bin/env python3
 """Spoilt texts: what the program answers to them, and what the plain implementation does.
 
-    texts.py [COUNT]        COUNT texts of each kind, 10000 where it isn't said; of patterns for
+    texts.py [COUNT]        COUNT texts of each kind, 2500 where it isn't said; of patterns for
                             several workers, of schedules for `switch` and `run`, of wirings and of
                             scripts for `talk` a quarter, of scripts side by side a twentieth
 
-Text number n of a kind is the same each time. So classes.txt has how often each class of answer
-comes among 10000, and that is compared. A plan isn't the only one of its batch, so `plan` is judged
-by what a plan is, or a steady one, and `switch` by the plan that `plan` gives; all other answers
-are compared byte by byte. Of a pattern several workers have to give the plan of one, byte by byte.
-In a quarter of the runs one of the files is standard input, and a tenth of the files have odd
-names. The line on standard error beside a refusal is compared byte by byte too, with what notes.py
-tells. What it says is wanted in a line is then put there: the texts have to be refused otherwise,
-or told of otherwise. In a tenth of the runs `--quiet` leaves that line out.
+Text number n of a kind is the same each time. So classes.txt has the numbers of those whose class
+of answer is rare, which are tried too, and how many classes there are. A plan isn't the only one of
+its batch, so `plan` is judged by what a plan is, or a steady one, and `switch` by the plan that
+`plan` gives; all other answers are compared byte by byte. Of a pattern several workers have to give
+the plan of one, byte by byte. In a quarter of the runs one of the files is standard input, and a
+tenth of the files have odd names. The line on standard error beside a refusal is compared byte by
+byte too, with what notes.py tells. What it says is wanted in a line is then put there: the texts
+have to be refused otherwise, or told of otherwise. In a tenth of the runs `--quiet` leaves that
+line out.
 """
 
 import multiprocessing
@@ -21,8 +22,8 @@ import random
 import re
 import shutil
 import sys
-import tempfile
-from collections import Counter, namedtuple
+from collections import namedtuple
+from pathlib import Path
 
 import mend
 import notes
@@ -38,10 +39,11 @@ from program import ROOMS, TOP, ask
 
 sys.path.append(f"{TOP}/examples")
 import check_prices
+import harness
+from harness import Report
 
-# What is printed of 10000 texts of each kind, but for what is wrong.
-# No class rests on which plan the program finds.
-CLASSES = os.path.join(os.path.dirname(os.path.abspath(__file__)), "classes.txt")
+# How many texts of each kind are tried where it isn't said.
+COUNT = 2500
 
 SCRIPTS = 16
 
@@ -747,57 +749,46 @@ def class_of(wanted):
 
 
 def try_some(share):
-    """Tries texts of a kind by their numbers: how often each class of answer came,
-    and what went wrong."""
+    """Tries texts of a kind by their numbers: what was compared, and the classes of the answers."""
     kind, numbers = share
-    classes, wrong = Counter(), []
-    with tempfile.TemporaryDirectory(dir=ROOMS) as room:
-        os.chdir(room)
+    report, classes = Report("texts", is_silent=True), set()
+    with harness.room("texts", enter=True, where=ROOMS):
         for number in numbers:
             well, wanted, texts, answer = KINDS[kind](random.Random(f"{kind} {number}"))
-            classes[class_of(wanted)] += 1
-            if not well:
-                wrong.append((number, wanted, texts, answer))
-        os.chdir("/")
-    return kind, classes, wrong
+            classes.add(class_of(wanted))
+            problems = [] if well else [str(texts), f"wanted {wanted}", f"got {answer}"]
+            report.judge(f"{kind}, number {number}", problems, kind)
+    return kind, classes, report
+
+
+def rare_texts():
+    """Of each kind how many classes of answers there are, and the texts of rare ones."""
+    lines = Path(__file__).with_name("classes.txt").read_text(encoding="utf-8").splitlines()
+    fields = [line.split(": ") for line in lines if not line.startswith("#")]
+    return {kind: [int(number) for number in numbers.split()] for kind, numbers in fields}
 
 
 def main():
-    count = int(sys.argv[1]) if len(sys.argv) > 1 else 10000
+    count = int(sys.argv[1]) if len(sys.argv) > 1 else COUNT
     parts = {
-        try_pattern: 4,
-        try_switch_by: 4,
-        try_run_by: 4,
-        try_wiring: 4,
-        try_talk: 4,
+        try_pattern: 4, try_switch_by: 4, try_run_by: 4, try_wiring: 4, try_talk: 4,
         try_scripts: 20,
-    }
-    counts = {kind: count // parts.get(try_it, 1) for kind, try_it in KINDS.items()}
-    shares = [
-        (kind, range(at, min(at + 250, most)))
-        for kind, most in counts.items()
-        for at in range(0, most, 250)
-    ]
-    classes, wrong = {kind: Counter() for kind in KINDS}, []
+    }  # fmt: skip
+    report, rare, shares = Report("texts"), rare_texts(), []
+    for kind, try_it in KINDS.items():
+        most = count // parts.get(try_it, 1)
+        numbers = [*range(most), *(number for number in rare[kind][1:] if number >= most)]
+        shares += [(kind, numbers[at : at + 250]) for at in range(0, len(numbers), 250)]
+    classes = {kind: set() for kind in KINDS}
     with multiprocessing.Pool(len(os.sched_getaffinity(0))) as pool:
-        for kind, found, failed in pool.imap_unordered(try_some, shares):
-            classes[kind].update(found)
-            wrong += [(kind, *it) for it in failed]
-    lines = []
-    for kind, found in classes.items():
-        lines += [
-            f"texts: {found.total()} {kind}",
-            *(f"texts:   {times:6} {name}" for name, times in sorted(found.items())),
-        ]
-    print("\n".join(lines))
-    with open(CLASSES, encoding="utf-8") as file:
-        if count == 10000 and lines != file.read().splitlines():
-            wrong.append(("classes", "others than in classes.txt", b"", [], ""))
-    for kind, number, wanted, texts, answer in wrong[:5]:
-        print(f"texts: WRONG: {kind}, number {number}: {texts}\n  wanted {wanted}\n  got {answer}")
-    print(f"texts: {len(wrong)} wrong")
-    return 1 if wrong else 0
+        for kind, found, own in pool.imap_unordered(try_some, shares):
+            classes[kind] |= found
+            report.add(own)
+    if count >= COUNT:
+        for kind, found in classes.items():
+            report.check(f"classes of {kind}", len(found), rare[kind][0], "kinds of all classes")
+    report.finish()
 
 
 if __name__ == "__main__":
-    sys.exit(main())
+    main()

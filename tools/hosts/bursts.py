@@ -23,8 +23,9 @@ import sys
 import tempfile
 from collections import namedtuple
 
-from kept import CHECKS, Record, Wrong, calls_of, end_of, judge_client, must
-from moments import EXCHANGE, LIMIT, is_wrong, read, resume, shown, try_all
+from kept import Record, Wrong, calls_of, end_of, judge_client, must
+import harness
+from moments import EXCHANGE, LIMIT, SECONDS, Started, is_wrong, read, resume, shown
 
 MOST = 0.05
 MOST_BY_TURNS = 0.08
@@ -152,8 +153,7 @@ class Day:
         )
 
     def judge(self):
-        """Judges what clients were told beside the record, and in which order all was written:
-        how many replies there are."""
+        """Judges what clients were told beside the record, and in which order all was written."""
         parts = [Part(self, number) for number in range(len(self.clients))]
         there = safe = asked = 0
         for call in self.calls:
@@ -174,14 +174,17 @@ class Day:
                         part.begins_to_tell(
                             call.count, safe
                         ) if call.when == "begin" else part.has_told(call.count)
-        return sum(part.client.told.count(b"\n") for part in parts)
+        for part in parts:
+            compared, told = part.compared, part.client.told.count(b"\n")
+            must(compared >= told, f"{part.file}: of {told} replies {compared} were compared")
 
 
 class Part:
     """What a client was told so far, beside the entries of its commands."""
 
     def __init__(self, day, number):
-        self.client, self.file, self.told = day.clients[number], f"c{number}.out", 0
+        self.client, self.file = day.clients[number], f"c{number}.out"
+        self.told = self.compared = 0
         entries, ends = day.record.entries, day.record.ends
         own = [(ends[at], ends[at + 1]) for at in range(len(entries)) if entries[at][0] == number]
         judge_client(day.record.of(number), day.said_and_told(number))
@@ -205,11 +208,11 @@ class Part:
 
     def begins_to_tell(self, count, safe):
         begun = self.replies(self.told + count, begun=True)
-        if begun and self.commands[begun - 1][1] > safe:
-            raise Wrong(
-                f"{self.file}: reply {begun} is told before its entry is there: "
-                f"{self.commands[begun - 1][1]} is behind {safe}"
-            )
+        for reply in range(self.compared, begun):
+            end = self.commands[reply][1]
+            why = f"{self.file}: reply {reply} comes before its entry: {end} after {safe}"
+            must(end <= safe, why, "replies compared with what the record had")
+        self.compared = max(self.compared, begun)
 
     def has_told(self, count):
         self.told += max(count, 0)
@@ -274,13 +277,11 @@ def try_judge():
         "no syncs": no_syncs,
         "early syncs": early_syncs,
     }.items():
-        must(is_wrong(day.judge), f"the judge lets this through: {what}")
-    return 4
+        must(is_wrong(day.judge), f"the judge lets this through: {what}", "days judged first")
 
 
 def try_order():
     """One client and sixteen, in bursts of all lengths."""
-    looked = 0
     for turn in range(24):
         draw, count = random.Random(f"bursts {turn}"), 1 if turn % 3 else 16
         most = draw.choice([1, 8, 64, 100])
@@ -292,17 +293,12 @@ def try_order():
             for k in range(count)
         ]
         day = in_room(lambda room: Day(room, texts, *(["--sync"] if turn % 2 else [])))
-        looked += day.judge()
-        must(
-            day.status == 0 and day.record.ended,
-            f"turn {turn}: status {day.status}, {day.out!r}, {day.err[:300]!r}",
-        )
+        day.judge()
+        why = f"turn {turn}: status {day.status}, {day.out!r}, {day.err[:300]!r}"
+        must(day.status == 0 and day.record.ended, why, "days in order")
         for client in day.clients:
-            must(
-                client.told.count(b"\n") == client.due,
-                f"turn {turn}: {client.name} wasn't told all",
-            )
-    return looked
+            is_all = client.told.count(b"\n") == client.due
+            must(is_all, f"turn {turn}: {client.name} wasn't told all")
 
 
 def try_parts():
@@ -312,45 +308,28 @@ def try_parts():
         ("push 0 0 1 0\npeek 0 80000800\npoke 1 80", 2),
     ]
     texts += [("000804 000000bb\nbatch 2\npush 0 0 1 0\n", 1), ("push 1 1 0 1\nplan 1\n", 2)]
-    looked = 0
     for options in [], ["--sync"]:
         day = in_room(lambda room: Day(room, [texts] * 3, *options))
-        looked += day.judge()
-        must(day.status == 0, f"status {day.status}, {day.out!r}, {day.err[:300]!r}")
-    return looked
+        day.judge()
+        why = f"status {day.status}, {day.out!r}, {day.err[:300]!r}"
+        must(day.status == 0, why, "days of parts")
 
 
 def try_counts():
     """Bursts of 64 lines: how often the record is written and synced."""
-    looked = 0
     for clients in 1, 16:
         for options in [], ["--sync"]:
             draw = random.Random("counts")
-            day = in_room(
-                lambda room: Day(
-                    room, [[pokes(draw, 64) for _ in range(20)] for _ in range(clients)], *options
-                )
-            )
-            looked += day.judge()
-            entries, writes, syncs = (
-                len(day.record.entries),
-                day.on_record("write"),
-                day.on_record("sync"),
-            )
-            print(
-                (
-                    f"bursts: {clients} clients, {entries} entries, {writes / entries:.4f} writes "
-                    f"and {syncs / entries:.4f} syncs an entry"
-                ),
-                flush=True,
-            )
-            well = (
-                entries == 1280 * clients
-                and max(writes, syncs) <= MOST * entries
-                and (options or syncs <= 1)
-            )
-            must(well, f"{clients} clients, {options}: {writes} writes, {syncs} syncs")
-    return looked
+            texts = [[pokes(draw, 64) for _ in range(20)] for _ in range(clients)]
+            day = in_room(lambda room: Day(room, texts, *options))
+            day.judge()
+            entries, writes = len(day.record.entries), day.on_record("write")
+            syncs = day.on_record("sync")
+            often = f"{writes / entries:.4f} writes and {syncs / entries:.4f} syncs an entry"
+            print(f"bursts: {clients} clients, {entries} entries, {often}", flush=True)
+            is_few = max(writes, syncs) <= MOST * entries and (options or syncs <= 1)
+            why = f"{clients} clients, {options}: {writes} writes, {syncs} syncs"
+            must(entries == 1280 * clients and is_few, why, "days counted")
 
 
 def try_turns():
@@ -361,28 +340,27 @@ def try_turns():
     texts = [[pokes(draw, 1) for _ in range(50)] for _ in range(16)]
     for slow in 20, 40, 80, 160:
         day = in_room(lambda room: Day(room, texts, "--sync", CALLS_SLOW=f"{slow}000"))
-        looked, entries, syncs = day.judge(), len(day.record.entries), day.on_record("sync")
+        day.judge()
+        entries, syncs = len(day.record.entries), day.on_record("sync")
         told = f"{syncs / entries:.4f} syncs and {day.switches / entries:.2f} switches an entry"
         print(f"bursts: 16 clients by turns, {entries} entries, {told}", flush=True)
         must(entries == 800, f"{entries} entries")
         if syncs <= MOST_BY_TURNS * entries and day.switches <= MOST_SWITCHES * entries:
-            return looked
+            return
     raise Wrong(f"{entries} entries, {told}")
 
 
 def try_last():
     """Sixteen clients who say a line each, at slow syncs:
     nobody waits for an entry that comes later."""
-    draw, looked = random.Random("last"), 0
+    draw = random.Random("last")
     for _ in range(8):
         texts = [[pokes(draw, 1)] for _ in range(16)]
-        looked += in_room(lambda room: Day(room, texts, "--sync", CALLS_SLOW="20000").judge())
-    return looked
+        in_room(lambda room: Day(room, texts, "--sync", CALLS_SLOW="20000").judge())
 
 
 def try_failures():
     """A write or a sync of the record fails once, or half of a group is written first."""
-    looked = 0
     for turn in range(24):
         draw, number = random.Random(f"fails {turn}"), 3 + turn % 7
         kind, clients = turn % 3, draw.choice([1, 4])
@@ -407,32 +385,27 @@ def try_failures():
                 call.name != "record" for call in day.calls[failed[0] + 1 :]
             )
             must(well, f"turn {turn}: the record is written behind a failure, or nothing failed")
-            must(
-                day.status == 3 and "ended record" in day.out,
-                f"turn {turn}: status {day.status}, {day.out!r}, {day.err[:300]!r}",
-            )
-            many, whole = day.judge(), read(f"{room}/record")[: day.record.ends[-1]]
+            why = f"turn {turn}: status {day.status}, {day.out!r}, {day.err[:300]!r}"
+            must(day.status == 3 and "ended record" in day.out, why, "days with a failure")
+            day.judge()
+            whole = read(f"{room}/record")[: day.record.ends[-1]]
             for client in day.clients:
                 os.unlink(f"{client.name}.in")
                 os.unlink(f"{client.name}.out")
                 open(f"{client.name}.in", "wb").close()
             status, told = resume(room, SHAPE, [client.name for client in day.clients])
-            must(
-                status == 0 and read(f"{room}/record") == whole + end_of(len(day.record.entries)),
-                f"turn {turn}: resumed: status {status}, {told!r}",
-            )
-            return many
+            is_whole = read(f"{room}/record") == whole + end_of(len(day.record.entries))
+            why = f"turn {turn}: resumed: status {status}, {told!r}"
+            must(status == 0 and is_whole, why, "records resumed after a failure")
 
-        looked += in_room(fail)
-    return looked
+        in_room(fail)
 
 
 def main():
-    failed = try_all(
-        [try_judge, try_order, try_parts, try_counts, try_turns, try_last, try_failures], "bursts"
-    )
-    print(f"bursts: {len(CHECKS)} checks, {failed} wrong")
-    sys.exit(1 if failed else 0)
+    report = harness.Report("bursts")
+    cases = [try_judge, try_order, try_parts, try_counts, try_turns, try_last, try_failures]
+    harness.run_cases(report, cases, Started, SECONDS, harness.TIMES_MORE)
+    report.finish()
 
 
 if __name__ == "__main__":

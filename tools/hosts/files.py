@@ -537,5 +537,5 @@ CASES = [
 
 if __name__ == "__main__":
     report = harness.Report("files")
-    harness.run_cases(report, CASES, PROCESSES)
-    report.finish(92, f"{len(CASES)} cases, {{tried}} things looked at, {{wrong}} cases wrong")
+    harness.run_cases(report, CASES, PROCESSES, times_more=harness.TIMES_MORE)
+    report.finish(f"{len(CASES)} cases, {{tried}} things looked at, {{wrong}} cases wrong")

@@ -15,9 +15,10 @@ import os
 import random
 import re
 import sys
-import tempfile
 
-import kept  # noqa: F401 (tools/hostile is on its path)
+import kept  # noqa: F401 (tools and tools/hostile are on its path)
+import harness
+from harness import Report
 from plain import Refused
 from program import ROOMS, ask
 from records import Misrecorded, Replay, answer_replay, call_at, end_of, spelled, summed
@@ -109,87 +110,57 @@ def judged(text, whole):
     return answer, text[: replay.ends[-1]] + end_of(len(replay.entries))
 
 
-def tried(text, wanted, left, names, number):
-    """What is wrong with what the program answers of spoilt record NUMBER, if anything is."""
+def try_record(report, what, text, wanted, left, names, asks):
+    """Asks `replay` about a spoilt record, or a session that goes on with it, or both."""
     with open("record", "wb") as file:
         file.write(text)
-    if wanted[2] == 0 or number % 2:
-        told = ask("replay", "record")
-        if told != wanted:
-            return f"{told} where it has to be {wanted}"
-    if wanted[2] == 0 or number % 2 == 0:
-        on = ask(
-            *(["host", "2x2x1", *names] if names else ["talk", "2x2x1"]),
-            "--record",
-            "record",
-            "--resume",
-            "--quiet",
-        )
+    if wanted[2] == 0 or asks == "replay":
+        report.check(what, ask("replay", "record"), wanted, "answers of `replay`")
+    if wanted[2] == 0 or asks == "session":
+        words = ["host", "2x2x1", *names] if names else ["talk", "2x2x1"]
+        on = ask(*words, "--record", "record", "--resume", "--quiet")
         with open("record", "rb") as file:
-            found = file.read()
-        if on.status != wanted[2] or wanted[2] and on.out != wanted[0] or found != left:
-            return f"{on}, and {found!r} where it has to be {left!r}"
-    return None
+            found = on.status, on.out if wanted[2] else b"", file.read()
+        report.check(what, found, (wanted[2], wanted[0] if wanted[2] else b"", left), "sessions")
 
 
 def try_records(turn, first, step, workers, asks):
-    """Tries every so manieth of the records that are made of one: how many, and what was wrong."""
-    text, wrong, looked = made_record(turn), [], 0
+    """Tries every so manieth of the records that are made of one."""
+    text, report = made_record(turn), Report("flips", is_silent=True)
     whole = Replay(text)
     names = [name.decode() for name in whole.names]
-    with tempfile.TemporaryDirectory(dir=ROOMS) as room:
-        os.chdir(room)
+    with harness.room("flips", enter=True, where=ROOMS):
         for name in names:
             open(f"{name}.in", "wb").close()
         for number, (what, spoilt) in enumerate(spoilt_records(text, step)):
-            if number % workers != first or spoilt == text:
+            if number // 2 % workers != first or spoilt == text:
                 continue
-            looked += 1
+            name = f"{what} of record {turn}"
             try:
                 wanted, left = judged(spoilt, whole)
-                why = tried(spoilt, wanted, left, names, number // workers) if asks else None
-            except (AssertionError, Misrecorded) as it:
-                why = it
-            if why:
-                wrong.append(f"{what} of record {turn}: {why}")
-        os.chdir("/")
-    return looked, wrong
+            except (AssertionError, Misrecorded) as why:
+                report.note(f"{name}: {why}")
+                continue
+            report.judge(name, [], "spoilt records that plain Python judged")
+            if asks:
+                way = "replay" if number % 2 else "session"
+                try_record(report, name, spoilt, wanted, left, names, way)
+    return report
 
 
 def main(words):
     asks = "self" not in words
     numbers = [int(word) for word in words if word != "self"]
     count, step = numbers[0] if numbers else 3, numbers[1] if numbers[1:] else 1
-    workers = os.cpu_count() or 1
+    workers, report = os.cpu_count() or 1, Report("flips")
+    parts = [
+        (turn, first, step, workers, asks) for turn in range(count) for first in range(workers)
+    ]
     with multiprocessing.Pool(workers) as pool:
-        found = pool.starmap(
-            try_records,
-            [
-                (turn, first, step, workers, asks)
-                for turn in range(count)
-                for first in range(workers)
-            ],
-        )
-    wrong = [line for _, lines in found for line in lines]
-    with tempfile.TemporaryDirectory(dir=ROOMS) as room:
-        os.chdir(room)
-        whole = made_record(0)
-        for text in whole[:-1], whole[1:]:
-            (printed, told, status), left = judged(text, Replay(whole))
-            for number, *it in (
-                (1, (printed, b"x", status), left),
-                (0, (printed, told, status), b"x"),
-            ):
-                if asks and not tried(text, *it, [], number):
-                    wrong.append("what is told of a record, or left of it, isn't compared")
-        os.chdir("/")
-    for line in wrong[:20]:
-        print(f"flips: WRONG: {line}")
-    print(
-        f"flips: {sum(looked for looked, _ in found)} spoilt records of {count}, {len(wrong)} wrong"
-    )
-    return bool(wrong)
+        for own in pool.starmap(try_records, parts):
+            report.add(own)
+    report.finish()
 
 
 if __name__ == "__main__":
-    sys.exit(main(sys.argv[1:]))
+    main(sys.argv[1:])

@@ -6,43 +6,22 @@ tools/hostile says a second time.
 """
 
 import math
-import os
 import sys
 import zlib
+from pathlib import Path
 
-TOP = os.path.dirname(os.path.dirname(os.path.dirname(os.path.abspath(__file__))))
-sys.path.insert(0, f"{TOP}/tools/hostile")
+sys.path[:0] = [str(Path(__file__).resolve().parents[1] / folder) for folder in ("", "hostile")]
 
 import plain  # noqa: E402
+from harness import Wrong, must  # noqa: E402
 from plain import Refused  # noqa: E402
-from records import (
-    CLIENT,
-    HEAD,
-    Misrecorded,
-    end_of,
-    entry_at,
-    head_of,
-    limit_of,
-    lines_at,
-)  # noqa: E402
+from records import (  # noqa: E402
+    CLIENT, HEAD, Misrecorded, end_of, entry_at, head_of, limit_of, lines_at,
+)  # fmt: skip
 from sealed import sum_line  # noqa: E402
 from sessions import Exchange  # noqa: E402
 
-__all__ = ["CHECKS", "Record", "Wrong", "end_of", "head_of", "judge_client", "must"]
-
-# The lines of a tool at which it looked at something.
-CHECKS = set()
-
-
-class Wrong(Exception):
-    """What is wrong with a record, or with what a client was told beside it."""
-
-
-def must(well, why):
-    """Notes the line that looks at something, which has to be well."""
-    CHECKS.add(sys._getframe(1).f_lineno)
-    if not well:
-        raise Wrong(why)
+__all__ = ["Record", "Wrong", "end_of", "head_of", "judge_client", "must"]
 
 
 class Record:
@@ -153,12 +132,8 @@ def judge_client(entries, said):
                 is_missing = is_missing or not left or left[0][0] != call
                 if is_missing:
                     break
-                left.pop(0)
-            elif not left:
-                raise Wrong(f"{command!r} was answered {reply!r}, and the record ends before")
-            elif left[0] != (call, wanted):
-                raise Wrong(f"{command!r} was answered {reply!r}, and the record has {left[0]!r}")
             else:
-                left.pop(0)
-    if left:
-        raise Wrong(f"the record has {left[0]!r}, which nobody asked")
+                why = f"{command!r} was answered {reply!r}, and the record has {left[:1]}"
+                must(left[:1] == [(call, wanted)], why, "replies compared with their entries")
+            left.pop(0)
+    must(not left, f"the record has {left[:1]}, which nobody asked", "clients compared")

@@ -11,6 +11,7 @@ is taken away or moved. `moments.py self` tries the judges alone, by records tha
 needs no program.
 """
 
+import functools
 import itertools
 import math
 import os
@@ -24,16 +25,14 @@ import tempfile
 import time
 from concurrent.futures import ProcessPoolExecutor
 
-from kept import CHECKS, Record, Wrong, end_of, head_of, judge_client, must
-from program import ROOMS
+from kept import Record, Wrong, end_of, head_of, judge_client, must
+import harness
+from program import EXCHANGE, ROOMS
 from records import made, summed
 
-TOP = os.path.dirname(os.path.dirname(os.path.dirname(os.path.abspath(__file__))))
-EXCHANGE = os.path.abspath(os.environ.get("EXCHANGE") or f"{TOP}/crates/exchange/out/exchange")
-
 CLIENTS = 16
-# Seconds that one host has. Most take far less than one, but machines differ.
-LIMIT = 300
+# Seconds that one host has, and a case or a round. Most take far less, but machines differ.
+LIMIT, SECONDS = harness.SECONDS, 3000
 # Seconds after which a host is killed, and how many replies come before that, at most.
 LIFE, REPLIES = 0.2, 3000
 # How many commands a client says together at most, in half of the rounds and in the others.
@@ -259,10 +258,8 @@ def judge_replay(room, record):
     """Judges `replay` of a record: it comes to the same words,
     whether the record has its end or not."""
     out, err, status = ask("replay", f"{room}/record")
-    must(
-        (out, status) == (record.exchange.image(), 0),
-        f"`replay` has status {status}, and tells {err[:300]!r}",
-    )
+    why = f"`replay` has status {status}, and tells {err[:300]!r}"
+    must((out, status) == (record.exchange.image(), 0), why, "images compared with `replay`")
 
 
 def judge(room, shape, names, said, record=None):
@@ -292,48 +289,42 @@ def begun(number):
 
 
 def try_kills(number):
-    """A round of hosts on one record, all of which are killed but the last: how often one was
-    killed, how many entries there are, what is wrong, and the lines that looked."""
+    """A round of hosts on one record, all of which are killed but the last."""
     draw, shape, kills = begun(number)
     said, before, record = [[] for _ in range(CLIENTS)], b"", None
     with tempfile.TemporaryDirectory(prefix="moments-") as room:
-        try:
-            for turn in range(kills + 1):
-                options = (["--resume"] if turn else []) + (
-                    ["--sync"] if draw.random() < 0.25 else []
-                )
-                last = draw.randint(1, 20) if turn == kills else None
-                host = Host(
-                    room,
-                    shape,
-                    draw,
-                    turn + 1,
-                    last,
-                    *options,
-                    "--image-out",
-                    f"{room}/left",
-                    most=MOST[number % 2],
-                )
-                host.go_on(LIMIT) if last else host.go_on(
-                    draw.uniform(0, LIFE), draw.randrange(REPLIES)
-                )
-                out, err, status, parts = host.end(None if last else draw.choice(SIGNALS))
-                for sayings, (more, extra) in zip(said, parts):
-                    sayings.extend([None, *more])
-                    must(not extra, f"a client was told {extra}")
-                text = recorded(room)
-                must(text.startswith(before), "an entry that was there is gone, or another")
-                record = judge(room, shape, host.names, said, record)
-                # A head without entries is written anew, so a host
-                # that is killed then may leave none.
-                before = text[: record.ends[-1]] if record and record.entries else b""
-            well = status == 0 and record.ended and read(f"{room}/left") == record.exchange.image()
-            must(well, f"the last host has status {status}, and prints {out!r} and {err[:300]!r}")
-        except (Wrong, OSError, subprocess.TimeoutExpired) as why:
-            return kills, 0, f"round {number}, shape {shown(shape)}: {why!r}", CHECKS
-        finally:
-            stop_all()
-    return kills, len(record.entries), None, CHECKS
+        for turn in range(kills + 1):
+            options = ["--resume"] * (turn > 0) + ["--sync"] * (draw.random() < 0.25)
+            options += ["--image-out", f"{room}/left"]
+            last = draw.randint(1, 20) if turn == kills else None
+            host = Host(room, shape, draw, turn + 1, last, *options, most=MOST[number % 2])
+            if last:
+                host.go_on(LIMIT)
+            else:
+                host.go_on(draw.uniform(0, LIFE), draw.randrange(REPLIES))
+            out, err, status, parts = host.end(None if last else draw.choice(SIGNALS))
+            for sayings, (more, extra) in zip(said, parts):
+                sayings.extend([None, *more])
+                must(not extra, f"a client was told {extra}")
+            text = recorded(room)
+            why = "an entry that was there is gone, or another"
+            must(text.startswith(before), why, "hosts killed, or at their ends")
+            record = judge(room, shape, host.names, said, record)
+            # A head without entries is written anew, so a host
+            # that is killed then may leave none.
+            before = text[: record.ends[-1]] if record and record.entries else b""
+        well = status == 0 and record.ended and read(f"{room}/left") == record.exchange.image()
+        why = f"the last host has status {status}, and prints {out!r} and {err[:300]!r}"
+        must(well, why, "rounds to their ends")
+
+
+def report_of(number):
+    """What comes of a round."""
+    try:
+        name = f"round {number}"
+        return harness.attempt("moments", name, functools.partial(try_kills, number), SECONDS)
+    finally:
+        stop_all()
 
 
 def idle_names(room, count):
@@ -394,20 +385,15 @@ def try_cuts():
             write(f"{room}/record", text[:cut])
             whole = max([end for end in ends if end <= cut], default=ends[0])
             status, told = resume(room, shape, names)
-            must(status == 0, f"cut at {cut}: status {status}, {told!r}")
-            must(
-                read(f"{room}/record") == text[:whole] + end_of(max(ends.index(whole), 0)),
-                f"cut at {cut}: the record isn't that of its whole entries",
-            )
+            must(status == 0, f"cut at {cut}: status {status}, {told!r}", "cuts resumed")
+            well = read(f"{room}/record") == text[:whole] + end_of(max(ends.index(whole), 0))
+            must(well, f"cut at {cut}: the record isn't that of its whole entries", "cuts kept")
             well = (off := said_of_cut(room, text[:whole], text[whole:cut])) == b"\n".join(
                 line for line in told.split(b"\n") if b": cut off: " in line
             )
-            must(well, f"cut at {cut}: {told!r}, and not {off!r}")
-            must(
-                read(f"{room}/left") == Record(text[:whole]).exchange.image(),
-                f"cut at {cut}: the image is another",
-            )
-        return len(text) + 1
+            must(well, f"cut at {cut}: {told!r}, and not {off!r}", "cuts reported")
+            well = read(f"{room}/left") == Record(text[:whole]).exchange.image()
+            must(well, f"cut at {cut}: the image is another", "images of cuts")
 
 
 def try_other_heads():
@@ -442,7 +428,6 @@ def try_other_heads():
             must((out, status) == (wanted, 1), f"{words}: {out!r} and {err!r}, status {status}")
             must(read(f"{room}/record") == text, f"{words}: the record isn't as it was")
         must(not any(os.path.exists(f"{name}.out") for name in names), "a client's file was opened")
-        return 1 + len(tries)
 
 
 def try_killed_resuming():
@@ -479,19 +464,16 @@ def try_killed_resuming():
                 b"",
                 *(end[: n + 1] for n in range(len(end))),
             )
-            must(well, f"turn {turn}: {text[len(whole):]!r} stands behind the entries")
+            why = f"turn {turn}: {text[len(whole):]!r} stands behind the entries"
+            must(well, why, "hosts killed while they resume")
         status, told = resume(room, shape, names)
-        must(
-            status == 0 and read(f"{room}/record") == whole + end,
-            f"at last: status {status}, {told!r}",
-        )
-        return 41
+        well = status == 0 and read(f"{room}/record") == whole + end
+        must(well, f"at last: status {status}, {told!r}")
 
 
 def try_full_disk():
     """A record's disk is full after some entries: no call that isn't kept is told, and what is kept
     goes on where there is room."""
-    looked = 0
     for turn in range(12):
         draw, shape = random.Random(f"full {turn}"), (16, 2, 2)
         with tempfile.TemporaryDirectory(prefix="moments-") as room:
@@ -517,12 +499,9 @@ def try_full_disk():
             out, err, status, parts = host.end()
             for sayings, (more, _) in zip(said, parts):
                 sayings.extend([None, *more])
-            must(
-                status == 0 and (record := judge(room, shape, host.names, said)).ended,
-                f"full {turn}: resumed, status {status}, {out!r}, {err[:300]!r}",
-            )
-            looked += len(record.entries)
-    return looked
+            well = status == 0 and judge(room, shape, host.names, said).ended
+            why = f"full {turn}: resumed, status {status}, {out!r}, {err[:300]!r}"
+            must(well, why, "records of full disks")
 
 
 def try_taken_away():
@@ -552,7 +531,6 @@ def try_taken_away():
                 os.rename(f"{room}/moved", f"{room}/record")
                 record = judge(room, shape, host.names, [sayings for sayings, _ in parts])
                 must(record.ended, f"away {turn}: the moved record isn't whole")
-    return 6
 
 
 # ---- the judges alone
@@ -624,20 +602,15 @@ def try_judge_of_clients():
         (ENTRIES[1:], unheard),
         (ENTRIES[:1], SAID[:2] + unheard[2:]),
     ]
-    for entries, said in right:
-        judge_client(entries, said)
-    for entries, said in wrong:
-        must(
-            is_wrong(lambda: judge_client(entries, said)),
-            f"the judge of clients lets {entries} and {said} through",
-        )
-    return len(right) + len(wrong)
+    for which, is_denied in (right, False), (wrong, True):
+        for entries, said in which:
+            why = f"the judge of clients is wrong on {entries} and {said}"
+            must(is_wrong(lambda: judge_client(entries, said)) == is_denied, why, "judged clients")
 
 
 def try_reader():
     """The reader of records: a record cut at each byte has its whole entries and a rest that can be
     torn; one that is spoilt hasn't."""
-    looked = 0
     for turn in range(20):
         draw = random.Random(f"reader {turn}")
         shape, names = (
@@ -656,23 +629,20 @@ def try_reader():
         must(well, f"turn {turn}: a record isn't read as it is")
         for cut in range(len(text)):
             if cut < head:
-                must(
-                    is_wrong(lambda: Record(text[:cut])),
-                    f"turn {turn}: a head that ends at {cut} is read",
-                )
+                why = f"turn {turn}: a head that ends at {cut} is read"
+                must(is_wrong(lambda: Record(text[:cut])), why, "cut records")
                 continue
             part = Record(text[:cut])
             well = part.entries == record.entries[: len(part.entries)] and part.ends[-1] == max(
                 end for end in record.ends if end <= cut
             )
-            must(well, f"turn {turn}: cut at {cut} it has other entries")
+            must(well, f"turn {turn}: cut at {cut} it has other entries", "cut records")
             if cut in record.ends:
                 part.go_on(text)
                 must(
                     (part.entries, part.ended, part.rest) == (record.entries, True, record.rest),
                     f"turn {turn}: from {cut} on it has other entries",
                 )
-            looked += 1
         last = record.ends[-1]
         spoilt = [
             text + b"\n",
@@ -702,10 +672,8 @@ def try_reader():
                 text[:begin] + summed(at + 1, lines) + text[end:],
             ]
         for it in spoilt:
-            if not is_wrong(lambda: Record(it)):
-                raise Wrong(f"turn {turn}: a spoilt record is read: {it!r}")
-        looked += len(spoilt)
-    return looked
+            why = f"turn {turn}: this is read: {it!r}"
+            must(is_wrong(lambda: Record(it)), why, "spoilt records")
 
 
 def try_rests():
@@ -744,25 +712,15 @@ def try_rests():
         summed(0, b"0 peek 0 80000800\nword 00000001\n"),
     ]
     for rest in may:
-        Record(head + rest)
+        must(not is_wrong(lambda: Record(head + rest)), f"{rest!r} can't be torn", "rests")
     for rest in may_not:
-        if not is_wrong(lambda: Record(head + rest)):
-            raise Wrong(f"{rest!r} can be torn")
-    return len(may) + len(may_not)
+        must(is_wrong(lambda: Record(head + rest)), f"{rest!r} can be torn", "rests")
 
 
-def try_all(cases, tool="moments"):
-    """Tries each case, and says what it looked at: how many are wrong."""
-    failed = int(not is_wrong(lambda: must(False, "something wrong comes first")))
-    for case in cases:
-        try:
-            print(f"{tool}: {case.__name__[4:]}: {case()} looked at", flush=True)
-        except (Wrong, OSError, subprocess.TimeoutExpired) as why:
-            failed += 1
-            print(f"{tool}: WRONG: {case.__name__[4:]}: {why!r}", flush=True)
-        finally:
-            stop_all()
-    return failed
+class Started:
+    """What `harness.run_cases` ends after a case."""
+
+    stop = staticmethod(stop_all)
 
 
 def numbers_of(count):
@@ -785,39 +743,27 @@ def obey():
     signal.signal(signal.SIGTERM, leave)
 
 
-def kill(count):
-    """Kills hosts until so many are killed: how many rounds are wrong."""
-    killed = entries = 0
-    wrong = []
+def kill(report, count):
+    """Kills hosts until so many are killed. A round that is wrong is run again, alone."""
+    numbers = numbers_of(count)
     # Where this tool is stopped, the rounds at work come to their ends, and no other begins.
     with ProcessPoolExecutor(len(os.sched_getaffinity(0)), initializer=obey) as pool:
-        for kills, more, why, checks in pool.map(try_kills, numbers_of(count)):
-            killed, entries = killed + kills, entries + more
-            CHECKS.update(checks)
-            if why:
-                wrong.append(why)
-    print(
-        (
-            f"moments: {killed} hosts of {CLIENTS} clients killed, {entries} entries, "
-            f"{len(wrong)} rounds wrong"
-        ),
-        flush=True,
-    )
-    for why in wrong[:5]:
-        print(f"moments: WRONG: {why}")
-    return len(wrong)
+        first = [*pool.map(report_of, numbers)]
+    for number, it in zip(numbers, first):
+        again = itertools.chain([it], iter(functools.partial(report_of, number), None))
+        harness.add_runs(report, f"round {number}", [*harness.runs_of(again.__next__)])
 
 
 def main():
     obey()
     what = sys.argv[1] if len(sys.argv) > 1 else "200"
-    failed = try_all([try_judge_of_clients, try_reader, try_rests])
+    report = harness.Report("moments")
+    cases = [try_judge_of_clients, try_reader, try_rests]
     if what != "self":
-        failed += kill(int(what)) + try_all(
-            [try_cuts, try_other_heads, try_killed_resuming, try_full_disk, try_taken_away]
-        )
-    print(f"moments: {len(CHECKS)} checks, {failed} wrong")
-    sys.exit(1 if failed else 0)
+        kill(report, int(what))
+        cases += [try_cuts, try_other_heads, try_killed_resuming, try_full_disk, try_taken_away]
+    harness.run_cases(report, cases, Started, SECONDS, harness.TIMES_MORE)
+    report.finish()
 
 
 if __name__ == "__main__":

@@ -154,10 +154,9 @@ def port_fails() -> Iterator[tuple[object, object]]:
 
 
 def main() -> None:
-    harness.self_test()
     report = harness.Report("turns")
-    harness.run_cases(report, [sessions, port_fails], PROCESSES)
-    report.finish(len(ROWS) + len(FAILING))
+    harness.run_cases(report, [sessions, port_fails], PROCESSES, times_more=harness.TIMES_MORE)
+    report.finish()
 
 
 if __name__ == "__main__":

@@ -40,7 +40,9 @@ ln -s ../libexchange.a "$all/lib/exchange/libexchange.a"
 put 755 "$work/$shared" "lib/$shared"
 ln -s "$shared" "$all/lib/libexchange.so"
 put 644 "$top/include/exchange.h" include/exchange.h
-put 644 "$top/python/exchange.py" "lib/$modules/exchange.py"
+for file in __init__.py py.typed; do
+    put 644 "$top/python/exchange/$file" "lib/$modules/exchange/$file"
+done
 
 # pkg-config names a folder with the static library alone, so that a program runs wherever the
 # shared one isn't found. (CMake finds no library by `-l:libexchange.a`.)

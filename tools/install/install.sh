@@ -75,5 +75,5 @@ printf '  %s\n' "${files[@]}" "$list"
 [ "$(pkg-config --variable=prefix exchange 2>/dev/null)" -ef "$prefix" ] ||
     echo "For pkg-config:     export PKG_CONFIG_PATH=$prefix/lib/pkgconfig"
 found=$(cd / && "$python" -B -c 'import exchange; print(exchange.__file__)' 2>/dev/null) || true
-[ "$found" -ef "$prefix/lib/$modules/exchange.py" ] ||
+[ "$found" -ef "$prefix/lib/$modules/exchange/__init__.py" ] ||
     echo "For Python:         export PYTHONPATH=$prefix/lib/$modules"

@@ -21,10 +21,10 @@ for ((at = ${#lines[@]} - 1; at >= 0; at--)); do
     /* | *..*) fail 1 "$prefix/$list isn't as it was written: $line" ;;
     ./) drop "$prefix" ;;
     */) drop "$prefix/$line" ;;
-    */exchange.py)
+    */__init__.py)
         # Python leaves what it compiled beside a module.
         compiled=$prefix/${line%/*}/__pycache__
-        rm -f "$prefix/$line" "$compiled"/exchange.*.pyc
+        rm -f "$prefix/$line" "$compiled"/__init__.*.pyc
         drop "$compiled"
         ;;
     *) rm -f "$prefix/$line" ;;

@@ -5,22 +5,23 @@ in Python: tools/python/run.py [COUNT]
     install     puts what its list says, stops where a file is in the way, and what it put is taken
                 away again, and no more, also where it was interrupted; all that is put has one
                 version
-    pages       helps call the program by its name, what `man` shows has each line of them, and
-                shells complete commands and options; what is installed names no page and no file
-                that isn't
+    pages       helps call the program by its name, what `man` shows has sections and each line of
+                them, and shells complete commands and options, and say what they do; what is
+                installed names no page and no file that isn't, and no program of a clone
     C           a program that pkg-config gives the words for,
                 and one that is linked with the shared library
     Python      the examples of the module's own texts, the emulator, want of memory, long answers,
                 how often a call is made, names of files, copies, memory of other kinds, and a link
                 to the module
-    texts       COUNT spoilt texts, 1000 where it isn't said, by the calls from Python and by the
+    films       of the crossbar, by the bytes that set the switch
+    texts       COUNT spoilt texts, 300 where it isn't said, by the calls from Python and by the
                 built program, byte for byte
     states      streams to a C004 and to the end of a link, against plain Python that shares no code
                 with the product; only bytes are sent, and the memory of an end keeps its length
     threads     sixteen that call at once are answered as one alone
 
-What isn't built yet is proved and built first. `man`, `pkg-config`,
-`zsh` and `fish` are tried where they are there.
+What isn't built yet is proved and built first. `man`, `mypy`, `pkg-config`, `zsh` and `fish` are
+tried where they are there.
 """
 
 import array
@@ -49,6 +50,9 @@ import calls
 import states
 from program import EXCHANGE, ask
 
+import harness
+from harness import Report
+
 EXAMPLES = f"{TOP}/examples"
 
 # What a shell makes of words behind `exchange`. Where that is nothing,
@@ -65,7 +69,7 @@ COMPLETED = {
 }
 
 # How a shell is asked, with the file by which it completes as its first word. Of zsh, which
-# completes at a terminal alone, it is what it would add.
+# completes at a terminal alone, it is what it would describe.
 SHELLS = {
     "bash": [
         "-c",
@@ -78,29 +82,34 @@ SHELLS = {
     "zsh": [
         "-fc",
         (
-            "compadd() { print -r -- ${(M)@[2,-1]:#$PREFIX*} }; _files() { print }; "
+            "_describe() { print -rl -- ${(M)${(P)2}:#$PREFIX*} }; _files() { print }; "
             "words=(${@:2}); CURRENT=$#words; PREFIX=$words[-1]; source $1"
         ),
         "zsh",
     ],
     "fish": ["-Nc", 'source $argv[1]; echo (complete -C "$argv[2..-1]")'],
 }
+
+# What stands in a shell between a word and what it does, where it says that.
+BETWEEN = {"zsh": ":", "fish": "\t"}
+
+# The sections of a page for `man`; the fourth, sixth and last but one are those of the program.
+SECTIONS = [
+    "NAME", "SYNOPSIS", "DESCRIPTION", "COMMANDS", "OPTIONS", "FILES", "EXIT STATUS", "EXAMPLES",
+    "SEE ALSO",
+]  # fmt: skip
 COMPLETIONS = {
     "bash": "bash-completion/completions/exchange",
     "zsh": "zsh/site-functions/_exchange",
     "fish": "fish/vendor_completions.d/exchange.fish",
 }
 
-# How many things were tried, and what was wrong.
-tried, wrong = [], []
+REPORT = Report("python")
 
 
 def expect(what, well, told=""):
     """Notes whether something is as it is to be."""
-    tried.append(what)
-    if not well:
-        wrong.append(what)
-        print(f"python: WRONG: {what}\n{told}", file=sys.stderr)
+    REPORT.judge(what, [] if well else [str(told)])
 
 
 def run(*words, **settings):
@@ -114,6 +123,11 @@ def expect_run(what, wanted, *words, **settings):
     """Notes whether a program ends well and prints this."""
     status, told = run(*words, **settings)
     expect(what, (status, told) == (0, wanted), f"status {status}\n{told}")
+
+
+def package_in(rack):
+    """The folder of the package for Python in a folder that was installed into."""
+    return next(Path(rack).rglob("exchange/py.typed")).parent
 
 
 def tree(folder):
@@ -202,10 +216,10 @@ def try_install(room):
     install("install beside other files", 0, mine)
     expect(
         "the module is where the folder's own python3 looks",
-        os.path.exists(f"{mine}/lib/python0/site-packages/exchange.py"),
+        os.path.exists(f"{mine}/lib/python0/site-packages/exchange/__init__.py"),
         tree(mine).keys(),
     )
-    theirs = next(Path(mine).rglob("exchange.py")).parent / "__pycache__" / "theirs.pyc"
+    theirs = package_in(mine) / "__pycache__" / "theirs.pyc"
     theirs.parent.mkdir()
     theirs.write_text("theirs")
     shutil.rmtree(f"{mine}/lib/pkgconfig")
@@ -262,7 +276,7 @@ def try_versions(rack):
         ),
         "module": re.findall(
             r'^__version__ = "(.*)"$',
-            next(Path(rack).rglob("exchange.py")).read_text(),
+            Path(package_in(rack), "__init__.py").read_text(),
             re.MULTILINE,
         ),
     }
@@ -420,8 +434,8 @@ def try_home(room):
 
 
 def read_helps(rack):
-    """The lines of all helps, where the program is found on the PATH. They call it by its name
-    then, and say of no folder."""
+    """All helps, where the program is found on the PATH; the first is that of the program itself.
+    They call it by its name then, and say of no folder."""
     env = {**os.environ, "PATH": f"{rack}/bin:{os.environ['PATH']}"}
     top = run("exchange", "--help", env=env)[1]
     listed = top.splitlines()[top.splitlines().index("Commands:") + 1 :]
@@ -436,7 +450,7 @@ def read_helps(rack):
     expect("called by its path it says the same", by_path == helps, by_path)
     texts = "\n".join([top, *helps.values()])
     expect("no help says where the program is", "./exchange" not in texts, texts)
-    return texts.splitlines()
+    return {"": top, **helps}
 
 
 def is_called_by_name(helps):
@@ -463,43 +477,56 @@ def try_named(rack):
     expect("all pages are there, and their files", not missing, missing)
     dead = [f"{page}: {link}" for page, link in links if not (page.parent / link).exists()]
     expect(f"the {len(links)} links of pages", len(links) > 100 and not dead, dead)
-    for path in [f"{rack}/include/exchange.h", str(next(Path(rack).rglob("exchange.py")))]:
+    for path in [f"{rack}/include/exchange.h", str(package_in(rack) / "__init__.py")]:
         named = re.findall(r"\b(?:docs/)?[A-Z]+\.md\b", Path(path).read_text())
         missing = [page for page in named if not os.path.exists(f"{docs}/{page}")]
         expect(f"the pages that {os.path.basename(path)} names", named and not missing, missing)
-    manual = (
-        Path(rack, "share/man/man1/exchange.1").read_text().replace("\\-", "-").replace("\\&", "")
-    )
-    named = re.findall(r"\S*\bexamples/\S+", manual)
+    for path in [*Path(docs).rglob("*.md"), *Path(docs, "rows/help").iterdir()]:
+        clones = r"\./exchange (?!prove|install|uninstall|plan FILE)\w*"
+        named = re.findall(clones, path.read_text())
+        expect(f"the program in {path.name}", not named or path.name == "CONTRIBUTING.md", named)
+    pages = "".join(it.read_text() for it in Path(rack, "share/man/man1").iterdir())
+    named = re.findall(r"\S*\bexamples/\S+", pages.replace("\\-", "-").replace("\\&", ""))
     missing = [name for name in named if not (name.startswith(f"{docs}/") and os.path.exists(name))]
     expect("the files that the manual names", named and not missing, missing)
 
 
+def try_page(rack, name, text):
+    """The page for `man` of a command, or of the program: its sections, and the help's lines."""
+    title = f"exchange-{name}".rstrip("-")
+    env = {**os.environ, "MANWIDTH": "200", "LC_ALL": "C.UTF-8"}
+    status, shown = run("man", "-l", f"{rack}/share/man/man1/{title}.1", env=env)
+    heads = [line for line in shown.splitlines() if line in SECTIONS]
+    wanted = [it for it in SECTIONS if not name or it not in ("COMMANDS", "FILES")]
+    expect(f"the sections of {title}", heads == wanted, heads)
+    lines = {" ".join(line.split()) for line in shown.splitlines()}
+    text = re.sub(r"(?m)(^|(?<= ))examples/", f"{rack}/share/doc/exchange/examples/", text)
+    text = re.sub(r"(?m)^(.*)\n\nUsage: ", rf"{title} - \1\n", text)
+    if not name:
+        text = re.sub(r"(?m)^  (\w+) +(?=[A-Z])", r"exchange-\1(1)\n", text)
+    left_out = ("Example:", "Commands:", "exchange-help(1)", HELPS)
+    missing = [it for it in text.splitlines() if " ".join(it.split()) not in lines]
+    missing = [it for it in missing if it not in left_out]
+    expect(f"man shows each line of the help of {title}", not missing and not status, missing)
+
+
+# What the program says of its command `help`, which has no page.
+HELPS = "Print this message or the help of the given subcommand(s)"
+
+
+def completed(helps, shell, words, word):
+    """What a shell makes of words: this word, and in some what it does, as a help says."""
+    text = helps[words.split()[0]] if word[:2] == "--" else helps[""]
+    does = re.search(rf"(?m)^ +(?:-\w, )?{word}(?: <[^>]+>)?  +(.*)$", text) if word else None
+    return word + (BETWEEN[shell] + does[1] if does and shell in BETWEEN else "")
+
+
 def try_pages(rack):
-    """The helps, the page for `man`, and what shells complete."""
-    helps = [
-        re.sub(r"(^|(?<= ))examples/", f"{rack}/share/doc/exchange/examples/", line)
-        for line in read_helps(rack)
-    ]
+    """The helps, the pages for `man`, and what shells complete."""
+    helps = read_helps(rack)
     try_named(rack)
-    if shutil.which("man"):
-        env = {**os.environ, "MANWIDTH": "200", "LC_ALL": "C.UTF-8"}
-        status, shown = run("man", "-l", f"{rack}/share/man/man1/exchange.1", env=env)
-        lines = {" ".join(line.split()) for line in shown.splitlines()}
-        helps += [
-            "SYNOPSIS",
-            *(
-                line.partition(": ")[2]
-                for line in helps
-                if line.startswith("Usage: ") and not line.endswith("<COMMAND>")
-            ),
-        ]
-        missing = [line for line in helps if " ".join(line.split()) not in lines]
-        expect(
-            "man shows each line of each help",
-            status == 0 and not missing,
-            "\n".join([*missing, shown]),
-        )
+    for name, text in helps.items() if shutil.which("man") else ():
+        try_page(rack, name, text)
     told = run(
         "bash",
         "-c",
@@ -513,7 +540,7 @@ def try_pages(rack):
     ):
         expect_run(
             f"{shell} completes {words}",
-            f"{wanted}\n",
+            f"{completed(helps, shell, words, wanted)}\n",
             shell,
             *SHELLS[shell],
             f"{rack}/share/{COMPLETIONS[shell]}",
@@ -521,6 +548,13 @@ def try_pages(rack):
             *words.split(),
             cwd=rack,
         )
+    for shell, name in itertools.product(filter(shutil.which, SHELLS), filter(None, helps)):
+        options = re.findall(r"(?m)^ +(?:-\w, )?(--[\w-]+)", helps[name])
+        words = [*SHELLS[shell], f"{rack}/share/{COMPLETIONS[shell]}", "exchange", name, "--"]
+        told = run(shell, *words, cwd=rack)[1]
+        found = re.findall(r"(?m)^--[\w-]+", told) if shell in BETWEEN else told.split()
+        is_all = len(options) > 1 and {*found} == {*options}
+        expect(f"{shell} completes each option of {name}", is_all, f"{told}\n{options}")
 
 
 def try_c(rack, room):
@@ -577,7 +611,7 @@ SET_NOTHING = "56 transfers in 0 settings that stood\nWRONG\n"
 
 
 def try_python(module):
-    """The module by itself, and the emulator."""
+    """The package in this folder, and the emulator."""
     env = {**os.environ, "PYTHONPATH": os.path.dirname(module)}
     told = run(
         sys.executable, "-c", "import doctest, exchange; print(*doctest.testmod(exchange))", env=env
@@ -617,6 +651,8 @@ def try_python(module):
         told,
     )
     stop_links(links, drive, env)
+    if shutil.which("mypy"):
+        try_types(os.path.dirname(module))
     expect_run(
         "want of memory",
         "exchange_apply was given no memory\nTrue\n",
@@ -627,6 +663,9 @@ def try_python(module):
     )
     sys.path.insert(0, os.path.dirname(module))
     try_help(run(sys.executable, "-m", "pydoc", "exchange", env=env)[1])
+    from film import try_films
+
+    try_films(expect, EXAMPLES)
     picture = FromPython().ask(
         "draw", [calls.read("all-to-all.txt"), calls.read("all-to-all.plan.txt")]
     )
@@ -639,14 +678,24 @@ def try_python(module):
     try_link(module)
 
 
+def try_types(modules):
+    """The types of the package and of the emulator, and a call that isn't right, by mypy."""
+    with tempfile.TemporaryDirectory(prefix="types-") as room:
+        Path(room, "wrong.py").write_text("import exchange\nexchange.plan(1)\n")
+        words = ["mypy", "--strict", f"--cache-dir={room}/cache"]
+        env = {**os.environ, "MYPYPATH": modules}
+        for file, status in (f"{EXAMPLES}/emulator/emulator.py", 0), (f"{room}/wrong.py", 1):
+            told = run(*words, file, env=env)
+            expect(f"the types of {file}", told[0] == status, told)
+
+
 def try_link(module):
-    """A link to the module finds the library that was installed with it, whatever the loader finds,
-    and a copy elsewhere the one that this finds."""
+    """A link to the package finds the library that was installed with it, whatever the loader
+    finds, and a copy elsewhere the one that this finds."""
     program = "import exchange; print(exchange.plan('batch 0\\n'), exchange.__file__)"
     with tempfile.TemporaryDirectory(prefix="linked-") as linked:
-        os.symlink(module, f"{linked}/exchange.py")
-        os.mkdir(f"{linked}/copied")
-        shutil.copy(module, f"{linked}/copied")
+        os.symlink(module, f"{linked}/exchange")
+        shutil.copytree(module, f"{linked}/copied/exchange")
         expect_run(
             "a library without calls",
             "",
@@ -662,7 +711,7 @@ def try_link(module):
             env = {**os.environ, "PYTHONPATH": where, "LD_LIBRARY_PATH": found}
             expect_run(
                 f"the module in {where}",
-                f"settings 0\nbusiest none\n {where}/exchange.py\n",
+                f"settings 0\nbusiest none\n {where}/exchange/__init__.py\n",
                 sys.executable,
                 "-c",
                 program,
@@ -981,27 +1030,20 @@ def text_at(number):
 
 
 def try_texts(numbers):
-    """The numbers of those texts that Python and the program answer differently."""
-    with tempfile.TemporaryDirectory(prefix="python-") as folder:
-        os.chdir(folder)
-        differing = [
-            number for number in numbers if not calls.is_same(FromPython(), *text_at(number))
-        ]
-        os.chdir("/")
-    return differing
+    """Whether Python and the program answer these texts alike."""
+    report = Report("python", is_silent=True)
+    with harness.room("python", enter=True):
+        for number in numbers:
+            name, given = text_at(number)
+            calls.compare(report, FromPython(), name, given)
+    return report
 
 
 def try_all_texts(count):
     workers = os.cpu_count() or 1
     with multiprocessing.Pool(workers) as pool:
-        differing = sum(
-            pool.map(try_texts, [range(first, count, workers) for first in range(workers)]), []
-        )
-    expect(
-        f"{count} spoilt texts",
-        not differing,
-        "\n".join(str(text_at(number))[:2000] for number in differing[:3]),
-    )
+        for own in pool.map(try_texts, [range(first, count, workers) for first in range(workers)]):
+            REPORT.add(own)
 
 
 # What is told where an end refuses a byte.
@@ -1068,13 +1110,9 @@ def try_states(count):
     """Streams to switches and to ends, and states that there are none of."""
     import exchange
 
-    handed = [(number, *it) for number in range(count) for it in hand(number)]
-    wrong = [it for it in handed if it[1] != it[2]]
-    expect(
-        f"{count} streams to switches and to ends",
-        len(handed) == 2 * count and not wrong,
-        wrong[:1],
-    )
+    for number in range(count):
+        for pair in hand(number):
+            REPORT.check(f"stream {number}", *pair, "streams to switches and to ends")
     for kind, state in [
         (exchange.C004, b"\1" * 36),
         (exchange.C004, b""),
@@ -1189,19 +1227,21 @@ def try_threads(count=16):
     wanted = [FromPython().ask(*it) for it in asked]
 
     def ask_all(first):
-        order = [(first * 15 + number) % len(asked) for number in range(len(asked))]
-        return sum(
-            FromPython().ask(*asked[number]) == wanted[number]
-            and all(a == b for a, b in hand(number))
-            for number in order
-        )
+        report = Report("python", is_silent=True)
+        for number in [(first * 15 + number) % len(asked) for number in range(len(asked))]:
+            answer = FromPython().ask(*asked[number])
+            report.check(f"text {number}", answer, wanted[number], "answers to threads at once")
+            for pair in hand(number):
+                report.check(f"stream {number}", *pair, "streams of threads at once")
+        return report
 
     with ThreadPoolExecutor(count) as threads:
-        expect(f"{count} threads at once", [*threads.map(ask_all, range(count))] == [240] * count)
+        for own in threads.map(ask_all, range(count)):
+            REPORT.add(own)
 
 
 def main():
-    count = int(sys.argv[1]) if len(sys.argv) > 1 else 1000
+    count = int(sys.argv[1]) if len(sys.argv) > 1 else 300
     with tempfile.TemporaryDirectory(prefix="python-") as room:
         os.environ["TMPDIR"] = work = f"{room}/work"
         os.mkdir(work)
@@ -1209,7 +1249,7 @@ def main():
         try_interrupted(room)
         try_modes(room)
         try_in_the_way(room)
-        module = str(next(Path(rack).rglob("exchange.py")))
+        module = str(package_in(rack))
         try_home(room)
         try_pages(rack)
         try_c(rack, room)
@@ -1224,8 +1264,10 @@ def main():
         expect(
             "nothing is left of what was made meanwhile", os.listdir(work) == [], os.listdir(work)
         )
-    print(f"python: {len(tried)} tried, with {count} spoilt texts, {len(wrong)} wrong")
-    sys.exit(1 if wrong else 0)
+    for name in ("man", "mypy", "pkg-config", "zsh", "fish"):
+        if not shutil.which(name):
+            print(f"python: {name} is missing, so less was tried")
+    REPORT.finish()
 
 
 if __name__ == "__main__":

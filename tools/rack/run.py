@@ -16,18 +16,21 @@ tools/rack/run.py [COUNT] [WORD]
               switch_to_c.py
     tables    those of each module of each pattern, and of a switch, in occam and in C, are made
               into its orders and bytes again
-    boards    modules are on other links of the switch, as a wiring says; and the cable ends at
-              slot 0, behind which a second relay is
+    boards    modules are on other links of the switch, as a wiring says, and transfers are turned
+              whose links aren't there; the cable ends at slot 0, behind which a second relay is;
+              and a relay does what it is asked alone, and its host is meant for it
     faults    the cable loses a byte, has one too many, or falls silent, at 20 places each; tables
               are of another schedule, slots are exchanged, a module is missing or dies in each
               setting, a second host comes, or what comes is wrong: the host says so and ends, and
               says `driven` in none
     misuse    what the programs of the examples say of wrong words, of files, modules and programs
               that are missing, and of what isn't theirs
-    ends      a cable may be a terminal; a switch alone and a module alone are handed words in
-              parts, and the switch words that come before it has settled; the two loops of the
-              relay carry the bytes of `drive` and `c004`; a cable that ends ends the host; one that
-              is told to end leaves nothing; and where a host is killed the next one goes on
+    ends      a cable may be a terminal, which has to be raw; a switch alone and a module alone are
+              handed words in parts, and the switch words that come before it has settled; the two
+              loops of the relay carry the bytes of `drive` and `c004`; a cable that ends ends the
+              host; one that is told to end, at any moment, says so in a line, and leaves nothing;
+              where a host is ended or killed the next one goes on, or says that the board has to be
+              booted
 
 Each has a folder of its own, and as many run at once as there are processors. What isn't built yet
 is proved and built first, and all is installed in a folder for the while. Another one is tried
@@ -36,6 +39,8 @@ where RACK names it. With WORD only those run that have it in their names.
 
 import contextlib
 import ctypes
+import fcntl
+import functools
 import itertools
 import math
 import os
@@ -47,6 +52,7 @@ import socket
 import subprocess
 import sys
 import tempfile
+import termios
 import threading
 import time
 import traceback
@@ -62,15 +68,20 @@ HOST, RACK, RELAY = (
     f"{EXAMPLES}/rack/rack.py",
     f"{EXAMPLES}/board/relay.py",
 )
-sys.path[:0] = f"{TOP}/tools/hostile", f"{EXAMPLES}/board"
+sys.path[:0] = f"{TOP}/tools", f"{TOP}/tools/hostile", f"{EXAMPLES}/board"
 # Nothing is left in the folder of the examples.
 sys.dont_write_bytecode = True
 
+import harness  # noqa: E402
 import host  # noqa: E402
+from harness import Report  # noqa: E402
 import plain  # noqa: E402
 import relay  # noqa: E402
 import spoil  # noqa: E402
 import tables  # noqa: E402
+
+# Bytes by which a host begins: -2 and three numbers.
+WAITING = 16
 
 # Seconds that a run has, those in which one that hangs says nothing more, and those that a host
 # waits for a byte where one is missing.
@@ -184,10 +195,19 @@ except (EOFError, ConnectionError):
     sys.exit(module.LINK_ENDED)
 """
 
-# It dies once it is told of setting K, or gives another number back than 0.
+# It dies once it is told of setting K, stays in setting 0, gives -2 back late,
+# or another number than 0.
 DIES = (
     "orders = module.Module.orders\nmodule.Module.orders = lambda self, k: os.kill(os.getpid(), "
     "9) if k == {} else orders(self, k)"
+)
+STAYS = (
+    "orders = module.Module.orders\nmodule.Module.orders = lambda self, k: "
+    f"time.sleep({LIMIT}) if k == 0 else orders(self, k)"
+)
+WAITS = (
+    "orders = module.Module.orders\nmodule.Module.orders = lambda self, k: "
+    f"k == -2 and time.sleep({SILENCE}) or orders(self, k)"
 )
 ERRS = "sent = module.sent\nmodule.sent = lambda *told: sent(*(it + (it == 0) for it in told))"
 
@@ -225,26 +245,22 @@ TAIL = 8, 48
 # negative, and what is awaited then.
 SILENT = {
     0: "-2 from the modules",
-    4: "what module 0 has",
-    9: "what module 0 has",
-    16: "what module 1 has",
-    28: "what module 2 has, or -3 where the chain ends",
-    32: "-4 from the modules, once module 0 has its words",
-    36: "-4 from the modules, once module 1 has its words",
-    40: "an answer of the switch to drive",
+    12: "-2 from the modules",
+    16: "from the relay whether it has tables",
+    18: "what module 0 has",
+    23: "what module 0 has",
+    30: "what module 1 has",
+    42: "what module 2 has, or -3 where the chain ends",
+    46: "-4 from the modules, once module 0 has its words",
+    50: "-4 from the modules, once module 1 has its words",
+    54: "an answer of the switch to drive",
     -52: "0 from the modules, which have to do setting 0",
     -48: "what module 0 has, or -5 where the chain ends",
     -36: "the words of module 0",
     -4: "-1 from the modules, which end",
 }
 
-wrong, started = [], []
-
-
-def expect(what, well, told=""):
-    if not well:
-        wrong.append(what)
-        print(f"rack: WRONG: {what}\n{told}", file=sys.stderr, flush=True)
+started = []
 
 
 def stop(*_):
@@ -263,19 +279,23 @@ def end_all(run):
 class Room:
     """A folder in which racks and hosts run, by what is installed."""
 
-    def __init__(self, installed, path, what):
+    def __init__(self, installed, path, what, report=None):
         self.installed, self.path, self.what, self.started = installed, path, what, []
+        self.report = report or Report("rack", is_silent=True)
         self.program = f"{installed}/bin/exchange"
-        module = next(Path(installed).rglob("exchange.py"))
+        package = next(Path(installed).rglob("exchange/py.typed")).parent
         # What a rack that is killed leaves goes with this folder.
-        places = {"EXCHANGE": self.program, "PYTHONPATH": str(module.parent), "TMPDIR": path}
+        places = {"EXCHANGE": self.program, "PYTHONPATH": str(package.parent), "TMPDIR": path}
         self.env = {**os.environ, **places, "PYTHONDONTWRITEBYTECODE": "1"}
 
     def at(self, name):
         return f"{self.path}/{name}"
 
     def expect(self, well, told=""):
-        expect(self.what, well, told)
+        self.report.judge(self.what, [] if well else [str(told)])
+
+    def also(self, part, well, told=""):
+        self.report.judge(f"{self.what}: {part}", [] if well else [str(told)])
 
     def pipes(self, *names):
         for name in names:
@@ -315,7 +335,8 @@ class Room:
 
     def host(self, *options, cable="cable", batch="batch", **settings):
         own = [word for word in self.options if word not in ("--slot-0", "--in-turn")]
-        return self.start(HOST, cable, batch, *own, *options, **settings)
+        shape = ["--shape", self.shape] if "--image" in [*own, *options] else []
+        return self.start(HOST, cable, batch, *shape, *own, *options, **settings)
 
     def end(self, run):
         """What a program says to its end, but for the numbers of a rack's processes, and what a
@@ -324,7 +345,7 @@ class Room:
             told = run.communicate(timeout=LIMIT)[0].decode()
         except subprocess.TimeoutExpired:
             told = "it hangs"
-        expect(f"{self.what}: a traceback", "Traceback" not in told, told)
+        self.also("a traceback", "Traceback" not in told, told)
         return re.sub(
             (
                 r"(?m)^(?:rack\.py: switch\.py \d+, |host\.py: nothing has come for 5 s; "
@@ -389,7 +410,8 @@ class Between:
     or is silent from there on. It leads from the host's pipes to those of a rack, which has
     begun."""
 
-    def __init__(self, room, kind="", way=0, place=None, byte=0):
+    def __init__(self, room, kind="", way=0, place=None, byte=0, options=()):
+        self.goes_on = threading.Event()
         self.room, self.kind, self.way, self.place, self.byte, self.counts = (
             room,
             kind,
@@ -399,7 +421,7 @@ class Between:
             [0, 0],
         )
         room.pipes("cable", "inner")
-        self.rack = room.rack("--cable", "inner")
+        self.rack = room.rack("--cable", "inner", *options)
         # Once -2 comes back all of them are there.
         self.ends = [self.said_to_the_rack(), os.open(room.at("inner.out"), os.O_RDONLY)]
         os.write(self.ends[0], b"\1\xfe\1\xff")
@@ -426,6 +448,8 @@ class Between:
                 far = os.open(
                     self.room.at(("cable.in", "cable.out")[way]), (os.O_RDONLY, os.O_RDWR)[way]
                 )
+                if self.kind == "held":
+                    fcntl.fcntl(far, fcntl.F_SETPIPE_SZ, 4096)
                 source, target = ((far, self.ends[0]), (self.ends[1], far))[way]
                 while came := os.read(source, 1):
                     is_here = way == self.way and self.counts[way] == self.place
@@ -435,7 +459,10 @@ class Between:
                         and self.counts[way] >= self.place
                     )
                     self.counts[way] += 1
-                    if is_here and self.kind != "silent":
+                    if self.kind == "held":
+                        if is_here:
+                            self.goes_on.wait()
+                    elif is_here and self.kind != "silent":
                         came = {
                             "lost": b"",
                             "more": self.byte + came,
@@ -505,9 +532,7 @@ def goes(room, order, is_well, *case):
         cable.move(int(next(lines).split()[1]))
         drive.process.stdin.close()
         ended = list(lines)
-        expect(
-            f"{room.what}: setting {setting} is left", ended == [f"left setting {setting}"], ended
-        )
+        room.also(f"setting {setting} is left", ended == [f"left setting {setting}"], ended)
         drive.process.wait()
     Path(room.at("left")).write_bytes(cable.read(shape))
     cable.end_modules()
@@ -581,7 +606,7 @@ def is_moved_in_c(room, *case, by_tables=False, first=0):
     is_seen = re.fullmatch(
         r"host.py: \d+ came back, and awaited was the sum of the switch's tables, .*\n", told
     )
-    expect(f"{room.what}: a switch's other tables", other.returncode == 1 and is_seen, told)
+    room.also("a switch's other tables", other.returncode == 1 and is_seen, told)
     next(Path(room.path).glob("rack-*/board.in")).write_bytes(b"\0")
     os.remove(room.at("left"))
     told = (
@@ -590,7 +615,7 @@ def is_moved_in_c(room, *case, by_tables=False, first=0):
         ),
         room.end(run),
     )
-    expect(f"{room.what}: the next host", told == (wanted, "") and room.is_left(), told)
+    room.also("the next host", told == (wanted, "") and room.is_left(), told)
 
 
 def relay_in_c(room):
@@ -599,6 +624,102 @@ def relay_in_c(room):
         tables_of("switch_to_c", room.ask("switch", "batch", *room.options).decode())
     )
     compile_all(room, [f"{EXAMPLES}/board/relay.c"], "-DRELAY", "-o", room.at("relay"))
+
+
+def does_what_it_is_asked(room, *case):
+    """Notes whether a board that sets its switch itself says what it is, and takes the number of a
+    setting after -3 alone. A host that means another board ends before a word moves."""
+    room.write(*case)
+    relay_in_c(room)
+    room.pipes("cable")
+    run = room.rack("--relay", "relay", "--cable", "cable")
+    told = room.end(room.host("--image", "image"))
+    said = "host.py: the relay sets the switch by tables of its own: that goes by --tables\n"
+    room.also("a host without tables", told == said, told)
+    found, ends = host.read_switch(room.ask("switch", "batch", *room.options).decode())
+    there, back = (os.open(room.at(f"cable.{way}"), os.O_RDWR) for way in ("in", "out"))
+    question, own = b"\3\0", b"\3\1"
+    moved = host.sent(host.switch_sum(found, ends), *range(len(ends)), host.END)
+    for numbers, came in (
+        ([0], b""),
+        ([host.READ, 0], b""),
+        ([host.TABLES, 0], on_way_0(moved)),
+        ([0], b""),
+        ([host.TABLES, host.WAIT, 0], on_way_0(moved[:2])),
+    ):
+        os.write(there, on_way_0(host.sent(*numbers)) + question)
+        told = take(back, len(came + own))
+        room.also(f"{numbers}", told == came + own, told)
+    os.write(there, b"\1\xff\1\xff")
+    told = take(back, 4), room.end(run)
+    room.expect(told == (b"\1\xff\1\xff", ""), told)
+    os.close(there)
+    os.close(back)
+
+
+def on_way_0(words):
+    return b"".join(bytes([host.SWITCH, byte]) for byte in words)
+
+
+def has_no_tables(room, *options):
+    """Notes whether a host that means a board with tables ends at one that has none."""
+    room.write(*CASES[0][1:])
+    room.pipes("cable")
+    room.rack("--cable", "cable", *options)
+    run = room.host("--tables", "--image", "image")
+    told = room.end(run)
+    said = "host.py: the relay has no tables of the switch, by which --tables goes\n"
+    room.expect(told == said and run.returncode == 1, told)
+
+
+def is_turned(room):
+    """Notes whether transfers that use links which aren't there are turned, and no others, and
+    those named that can't be: in batches of four modules, some of whose links aren't there."""
+    draw, counts = random.Random(room.what), [0, 0]
+    for _ in range(60):
+        ends = [[draw.random() < 0.8 for _ in range(2)] for _ in range(4)]
+        lines = [
+            " ".join(
+                f"link {3 * end} " + (f"at {2 * m + end}" if is_there else "none")
+                for end, is_there in enumerate(pair)
+            )
+            for m, pair in enumerate(ends)
+        ]
+        wiring = "wiring 4\n" + "".join(f"module {m} {line}\n" for m, line in enumerate(lines))
+        Path(room.at("wiring")).write_text(wiring)
+        count = draw.randint(0, 4)
+        numbers = [[draw.randrange(4), b, draw.randrange(4), 9 - b] for b in range(count)]
+        batch = [" ".join(map(str, [draw.choice(["push", "pull"]), *it])) for it in numbers]
+        wanted, lost = [f"batch {len(batch)}"], []
+        for number, (line, (m, b, n, c)) in enumerate(zip(batch, numbers)):
+            other = {"push": "pull", "pull": "push"}[line[:4]]
+            ways = [
+                (ends[m][0] and ends[n][1], line),
+                (ends[n][0] and ends[m][1], f"{other} {n} {c} {m} {b}"),
+            ]
+            fit = [text for is_there, text in ways if is_there]
+            wanted += fit[:1]
+            lost += [] if fit else [f"transfer {number}, {line}: "]
+        run = subprocess.run(
+            [sys.executable, f"{EXAMPLES}/board/without_link.py", "wiring"],
+            input="\n".join([f"batch {len(batch)}", *batch, ""]),
+            capture_output=True,
+            text=True,
+            cwd=room.path,
+            check=False,
+        )
+        counts[bool(lost)] += 1
+        Path(room.at("turned")).write_text(run.stdout)
+        if lost:
+            said = [it.partition("without_link.py: ")[2] for it in run.stderr.splitlines()]
+            is_well = run.stdout == "" and run.returncode == 1 and len(said) == len(lost)
+            is_well = is_well and all(it.startswith(begun) for it, begun in zip(said, lost))
+        else:
+            is_well = run.stdout.splitlines() == wanted
+            # It is refused where a link isn't there.
+            room.ask("switch", "turned", "--wiring", "wiring")
+        room.expect(is_well, f"{wiring}{batch}\n{run}")
+    room.expect(min(counts) >= 10, counts)
 
 
 def ends_by_tables(room, *case):
@@ -622,7 +743,7 @@ def are_told_again(room, path, words, modules):
         told = room.orders("--module", str(m))
         for language in "occam", "c":
             text = tables_of(f"orders_to_{language}", told)
-            expect(
+            room.also(
                 f"{language} of module {m}, {path} {words}",
                 tables.orders(language, text) == told,
                 text,
@@ -631,7 +752,7 @@ def are_told_again(room, path, words, modules):
         told = room.ask("switch", "batch", *words).decode()
         for language in "occam", "c":
             text = tables_of(f"switch_to_{language}", told)
-            expect(
+            room.also(
                 f"{language} of the switch, {path} {words}",
                 tables.switch(language, text) == told,
                 text,
@@ -772,6 +893,31 @@ def is_moved_over_a_pty(room, *case):
     )
 
 
+def is_cooked(room):
+    """Notes whether a host says what a terminal does with bytes, and reads none."""
+    room.write(*CASES[0][1:])
+    for change, said in (
+        (lambda flags: None, "icrnl, ixon, opost, icanon, echo, isig, not min 1 time 0"),
+        (lambda flags: flags[6].__setitem__(termios.VTIME, 20), "not min 1 time 0"),
+        (lambda flags: flags.__setitem__(0, termios.IXON), "ixon"),
+    ):
+        far, near = os.openpty()
+        if "icanon" not in said:
+            tty.setraw(near)
+            flags = termios.tcgetattr(near)
+            change(flags)
+            termios.tcsetattr(near, termios.TCSANOW, flags)
+        name = os.ttyname(near)
+        told = room.end(room.host(cable=name))
+        line = (
+            f"host.py: {name} isn't raw ({said}), at 38400 baud: first stty -F {name} SPEED raw "
+            "-echo min 1 time 0\n"
+        )
+        room.also(said, told == line, told)
+        os.close(far)
+        os.close(near)
+
+
 def ends(room, switches, *words):
     """Notes whether the host, at so many switches, ends where its cable does before one has
     answered, and drops what was there."""
@@ -782,17 +928,23 @@ def ends(room, switches, *words):
     os.write(held, b"\7\1\xfe\1\xff\1")
     run = room.host(*words)
     there = os.open(room.at("cable.in"), os.O_RDONLY)
-    for reply in b"\xfe\xff", b"\xfd\xff":
-        told = take(there, 4)
-        expect(f"{room.what}: {reply}", told == bytes([1, reply[0], 1, reply[1]]), told)
-        orders = b"".join(
-            it.to_bytes(2, "little", signed=True)
-            for it in [host.orders_sum([], [[(0, "send block", 0), (3, "receive block", 0)]]), 1, 1]
-        )
-        told = (orders if reply[0] == 0xFD else b"") + reply
-        os.write(held, b"".join(bytes([1, byte]) for byte in told))
+    orders = host.orders_sum([], [[(0, "send block", 0), (3, "receive block", 0)]])
+    # Where the modules wait all numbers come back.
+    told = take(there, WAITING)
+    room.also("it begins", told.startswith(b"\1\xfe\1\xff"), told)
+    os.write(held, told)
+    for awaited, reply in (
+        (b"\3\0", b"\3\0"),
+        (
+            b"\1\xfd\1\xff",
+            b"".join(bytes([1, byte]) for byte in host.sent(orders, 1, 1, host.TABLES)),
+        ),
+    ):
+        told = take(there, len(awaited))
+        room.also(f"{awaited}", told == awaited, told)
+        os.write(held, reply)
     take(there, 2)
-    expect(f"{room.what}: ports", len([*Path(room.path).glob("host-*/port?.in")]) == switches)
+    room.also("ports", len([*Path(room.path).glob("host-*/port?.in")]) == switches)
     os.close(held)
     os.close(there)
     told = room.end(run)
@@ -826,13 +978,13 @@ def finds_the_program(room):
 
 
 def is_ended(room, by):
-    """Notes whether a rack, and a host, that a signal ends leave no folder and no process. The rack
-    itself has no end of a link."""
+    """Notes whether a rack, and a host, that a signal ends say so in a line each, and leave no
+    folder and no process. The rack itself has no end of a link."""
     room.write(*CASES[0][1:])
     room.pipes("cable")
     run, paused = (
         room.rack("--cable", "cable", stderr=subprocess.PIPE),
-        room.host("--pause", **PAUSED),
+        room.host("--pause", stdin=subprocess.PIPE, stderr=subprocess.PIPE),
     )
     numbers = re.findall(r" (\d+)[,\n]", run.stderr.readline().decode())
     told, made = paused.stdout.readline(), folders(room)
@@ -844,7 +996,7 @@ def is_ended(room, by):
     ]
     for it in run, paused:
         it.send_signal(by)
-    texts = [it.communicate(timeout=LIMIT)[0] for it in (run, paused)]
+    texts = [it.communicate(timeout=LIMIT)[1].decode() for it in (run, paused)]
     # This one takes over the processes whose own are gone, and waits for none of these. So what
     # wasn't waited for is still there.
     left = [number for number in numbers if os.path.exists(f"/proc/{number}")]
@@ -856,10 +1008,86 @@ def is_ended(room, by):
         len(numbers),
         links,
         left,
+        [re.sub("host.py: nothing has come .*\n", "", text) for text in texts],
     )
+    lines = [f"{name}: ended by {signal.Signals(by).name}\n" for name in ("rack.py", "host.py")]
     room.expect(
-        found == (b"setting 0 0 2\n", 2, set(), [128 + by] * 2, 6, [], []), f"{found} {texts}"
+        found == (b"setting 0 0 2\n", 2, set(), [128 + by] * 2, 6, [], [], lines),
+        f"{found} {texts}",
     )
+
+
+def is_interrupted(room, program, seconds):
+    """Notes whether a rack with its host, or a host without a rack, that are interrupted say so in
+    a line each at most, so many seconds after they have begun. Setting 0 never ends."""
+    room.write(*CASES[0][1:])
+    room.pipes("cable")
+    if program == "rack.py":
+        run = room.rack(*room.programs({0: STAYS}), "--image", "image")
+    else:
+        run = room.host("--image", "image")
+    # Until then Python has not come to the program.
+    until = time.monotonic() + 10 * SILENCE
+    while not (is_there := is_blocked(run.pid, signal.SIGINT)) and time.monotonic() < until:
+        pass
+    time.sleep(seconds)
+    os.killpg(run.pid, signal.SIGINT)
+    lines = room.end(run).splitlines()
+    said = [it for it in lines if it != "setting 0 0 2"]
+    lines = {f"{name}: ended by SIGINT" for name in ("rack.py", "host.py")}
+    is_well = f"{program}: ended by SIGINT" in said and set(said) <= lines and len(said) <= 2
+    is_well = is_well and is_there and folders(room) == set()
+    room.expect(is_well and run.returncode == 130, f"{is_there} {said} {run}")
+
+
+def is_blocked(process, number):
+    """Whether a process blocks a signal."""
+    with contextlib.suppress(OSError):
+        status = Path(f"/proc/{process}/status").read_text()
+        return bool(int(re.search(r"SigBlk:\s*(\w+)", status)[1], 16) >> (number - 1) & 1)
+    return False
+
+
+def is_followed(room, by, place):
+    """Notes what comes of a host that a signal ends as it fills the modules, once the board has
+    taken so many bytes: the next host goes on. Where the first one was killed, the next one says
+    what is to be done."""
+    room.write("2x8x256", read("swap.txt"), [])
+    between = Between(room, "held", 0, place)
+    first = room.host("--image", "image")
+    while between.counts[0] < place:
+        time.sleep(0.01)
+    # By then it waits for the cable, which is a small one.
+    time.sleep(SILENCE)
+    first.send_signal(by)
+    if by == signal.SIGKILL:
+        first.wait()
+    between.goes_on.set()
+    told = room.end(first), first.returncode
+    second = room.host("--image", "image", "--image-out", "left", "--patience", str(PATIENCE))
+    if by == signal.SIGKILL:
+        said = room.end(second)
+        is_said = f"nothing has come for {PATIENCE} s; awaited was -2 from the modules" in said
+        is_said = is_said and said.endswith("boot the relay and the modules again\n")
+        room.expect(is_said and second.returncode == host.SILENT, said)
+    else:
+        line = f"host.py: ended by {signal.Signals(by).name}\n"
+        said = room.end(second)
+        is_well = told == (line, 128 + by) and said == "setting 0 0 1\ndriven settings 1\n"
+        room.expect(is_well and room.is_left(), f"{told} {said}")
+
+
+def is_followed_at_once(room):
+    """Notes whether a host goes on that follows one which ended before -2 came back to it."""
+    room.write(*SPOILT)
+    between = Between(room, options=room.programs({0: WAITS}))
+    first = room.host("--image", "image")
+    while between.counts[0] < 4:
+        time.sleep(0.01)
+    first.terminate()
+    told = room.end(first), room.end(room.host("--image", "image", "--image-out", "left"))
+    driven = "setting 0 0 1\ndriven settings 1\n"
+    room.expect(told == ("host.py: ended by SIGTERM\n", driven) and room.is_left(), told)
 
 
 def hears_all(room):
@@ -889,7 +1117,7 @@ def goes_on(room):
     told = [paused.stdout.readline()]
     is_silent = not select.select([paused.stdout], [], [], SILENCE)[0]
     second = room.host()
-    expect(
+    room.also(
         "a second host",
         (room.end(second), second.returncode) == ("host.py: another host has cable\n", 1),
     )
@@ -967,6 +1195,7 @@ def host_says(room, said, cable, *words):
     for name in "file", "half.out":
         Path(room.at(name)).write_text("")
     os.mkfifo(room.at("half.in"))
+    os.symlink("image", room.at("link"))
     run = room.host(*words, cable=cable)
     told = room.end(run)
     room.expect(run.returncode == 1 and told.endswith(said), told)
@@ -981,8 +1210,8 @@ def is_flooded(room):
 
 
 def hears(room, said, replies, *words):
-    """Notes whether a host ends that hears these of a board, each once so many bytes have come,
-    after a byte of a switch, and says this."""
+    """Notes whether a host ends that hears these of a board, or what it said itself, each once so
+    many bytes have come, after a byte of a switch, and says this."""
     room.write("1x1x1", "batch 1\npush 0 0 0 0\n", [])
     room.pipes("cable")
     held = os.open(room.at("cable.out"), os.O_RDWR)
@@ -990,11 +1219,11 @@ def hears(room, said, replies, *words):
     there = os.open(room.at("cable.in"), os.O_RDONLY)
 
     def reply():
-        for count, numbers in replies:
-            take(there, count)
-            os.write(
-                held, b"".join(bytes([host.SWITCH_B, 0, host.MODULES, byte]) for byte in numbers)
-            )
+        for count, numbers, *way in replies:
+            told = take(there, count)
+            numbers = told[1::2] if numbers is None else numbers
+            pairs = (bytes([host.SWITCH_B, 0, *(way or [host.MODULES]), byte]) for byte in numbers)
+            os.write(held, b"".join(pairs))
 
     threading.Thread(target=reply, daemon=True).start()
     told = room.end(run)
@@ -1093,11 +1322,10 @@ def is_spoilt(room, kind, way, place, byte, said=r"(?m)^host\.py: |^stopped sett
 def falls_silent(room, way, place, awaited):
     """Notes whether a host says what is awaited of a cable that falls silent. On a busy machine it
     may be something before: then it is tried once more, with more patience."""
-    told = ""
     for patience in PATIENCE, 8 * PATIENCE:
         with (
             tempfile.TemporaryDirectory(dir=room.path) as path,
-            contextlib.closing(Room(room.installed, path, room.what)) as inner,
+            contextlib.closing(Room(room.installed, path, room.what, room.report)) as inner,
         ):
             inner.write(*SPOILT)
             Between(inner, "silent", way, place)
@@ -1111,11 +1339,9 @@ def falls_silent(room, way, place, awaited):
                 (host.SILENT, f"nothing has come for {patience} s;"),
                 (1, "the cable has ended, and"),
             ):
-                if (
-                    run.returncode == status
-                    and f"host.py: {why} awaited was {awaited}" in told
-                    and is_whole
-                ):
+                is_told = f"host.py: {why} awaited was {awaited}" in told
+                if run.returncode == status and is_told and is_whole:
+                    room.expect(True)
                     return
     room.expect(False, told)
 
@@ -1204,6 +1430,16 @@ def boards():
         "batch 1\npush 0 0 0 1\n",
         [],
     )
+    yield (
+        does_what_it_is_asked,
+        "in C, by the board's own tables: what it isn't asked",
+        "2x1x2",
+        read("swap.txt"),
+        "settings 2\nsetting 0\nsetting 1\n",
+    )
+    yield has_no_tables, "a board that has no tables"
+    yield has_no_tables, "a board that has no tables, and a cable to slot 0", "--slot-0"
+    yield is_turned, "links that aren't on the switch"
     # Setting 0 moves nothing. Setting 1 needs what it joined.
     yield (
         by_tables,
@@ -1251,7 +1487,7 @@ def faults(totals):
         )
     for place in draw.sample(range(totals[0]), 20 - len(SILENT)):
         yield falls_silent, f"the board hears nothing from byte {place} on", 0, place, ""
-    for place in 41, 101, totals[1] - TAIL[1] - 5:
+    for place in 55, 115, totals[1] - TAIL[1] - 5:
         yield comes_again, f"another answer, byte {place}", place
     for m, setting in itertools.product((0, 2), range(3)):
         yield (
@@ -1308,25 +1544,33 @@ def hosts():
     yield compares, "a module of another size", blocks, case, {1: size}
     yield (
         compares,
-        "an image of another size",
-        "file has 0 bytes, and 3 modules of 2 blocks of 2 words have 48\n",
+        "an image of another shape",
+        "host.py: the modules are 3x2x2, and not 2x3x2\n",
         case,
         {},
         None,
-        ["--schedule", "schedule", "--image", "file"],
+        ["--schedule", "schedule", "--image", "image", "--shape", "2x3x2"],
     )
-    yield (
-        compares,
-        "an image that is too long",
-        (
-            f"host.py has {os.path.getsize(HOST)} bytes, and 3 modules of 2 blocks of 2 words have "
-            "48\n"
-        ),
-        case,
-        {},
-        None,
-        ["--schedule", "schedule", "--image", HOST],
-    )
+    words = "modules, blocks and words\n"
+    for shape, said in (
+        ([], f"host.py has {os.path.getsize(HOST)} bytes, and 3x2x2 has 48\n"),
+        (["--shape", "3x2x02"], f'host.py: --shape 3x2x02 isn\'t "MxKxW": {words}'),
+        (["--shape", ""], f"host.py: --image has words alone: --shape MxKxW says how many {words}"),
+    ):
+        yield host_says, f"an image, {shape}", said, "missing", "--image", HOST, *shape
+    for written, is_read in ("batch",) * 2, ("wiring",) * 2, ("image",) * 2, ("link", "image"):
+        yield (
+            host_says,
+            f"the image would be written over {written}",
+            f"host.py: --image-out {written}: that is {is_read}, which is read\n",
+            "missing",
+            "--wiring",
+            "wiring",
+            "--image",
+            "image",
+            "--image-out",
+            written,
+        )
     yield (
         compares,
         "another number comes back",
@@ -1341,6 +1585,7 @@ def hosts():
             f"host.py: {cable} is a plain file, and no cable\n",
             cable,
         )
+    yield is_cooked, "a terminal that isn't raw"
     yield goes_on, "a host that is killed in its pause"
     yield pauses, "a pause"
     yield waits, "a host before its rack"
@@ -1401,15 +1646,16 @@ def slowly(*replies):
 def boards_that_say_too_much():
     """Bytes without end, too many modules, and a board that can't set its switches by tables."""
     waits, own = (
-        (4, host.sent(host.WAIT)),
+        (WAITING, None),
         host.orders_sum([], [[(0, "send block", 0), (3, "receive block", 0)]]),
     )
     modules = [own, 1, 1] + [host.orders_sum([], [[]]), 1, 1] * 16
+    plain, has_tables = ((2, bytes([kind]), host.KIND) for kind in (0, host.BY_TABLES))
     yield (
         hears,
         "bytes come slowly",
         "host.py: more than 32 modules answer\n",
-        slowly(*[(0, b"\0")] * 6, waits, (4, host.sent(*modules[:3] * 33))),
+        slowly(*[(0, b"\0")] * 6, waits, plain, (4, host.sent(*modules[:3] * 33))),
         "--patience",
         "4",
     )
@@ -1426,13 +1672,13 @@ def boards_that_say_too_much():
         hears,
         "more than 32 modules",
         "host.py: more than 32 modules answer\n",
-        [waits, (4, host.sent(*modules[:3] * 33))],
+        [waits, plain, (4, host.sent(*modules[:3] * 33))],
     )
     yield (
         hears,
         "tables, and two switches",
         "host.py: --tables is for a board with one switch\n",
-        [waits, (4, host.sent(*modules, host.TABLES))],
+        [waits, has_tables, (4, host.sent(*modules, host.TABLES))],
         "--tables",
     )
 
@@ -1489,6 +1735,18 @@ def misused():
         RACK,
         "2x1x1",
         "missing",
+    )
+    yield (
+        says,
+        "misuse: the image over the batch",
+        1,
+        "rack.py: --image-out batch: that is batch, which is read\n",
+        python,
+        RACK,
+        "2x1x1",
+        "batch",
+        "--image-out",
+        "batch",
     )
     yield (
         says,
@@ -1553,6 +1811,14 @@ def misused():
         python,
         f"{EXAMPLES}/all-reduce.py",
     )
+    turn = f"{EXAMPLES}/board/without_link.py"
+    for what, said, *words in (
+        ("no wiring", "usage: without_link.py WIRING < BATCH\n", turn),
+        ("another text", "without_link.py: batch is no wiring\n", turn, "batch"),
+        ("a missing wiring", "No such file or directory: 'missing'\n", turn, "missing"),
+        ("no batch to turn", "without_link.py: standard input is no batch\n", turn, "wiring"),
+    ):
+        yield says, f"misuse: {what}", 1, said, python, *words
     yield (
         says,
         "misuse: patterns",
@@ -1665,6 +1931,14 @@ def alone():
     yield hears_all, "a cable whose relay is late"
     yield is_ended, "a rack that is told to end, and its host", signal.SIGTERM
     yield is_ended, "a rack that is interrupted, and its host", signal.SIGINT
+    for program, seconds in itertools.product(("rack.py", "host.py"), (0, 0.05, 0.2, 0.5, 1, 2)):
+        yield is_interrupted, f"{program} is interrupted after {seconds} s", program, seconds
+    yield is_followed_at_once, "a host is ended before -2 comes back"
+    # In a module's number, and among its words, of the first and of the second one.
+    for by, place in itertools.product(
+        (signal.SIGINT, signal.SIGTERM, signal.SIGKILL), (24, 5_000, 16_412, 20_000, 26_000)
+    ):
+        yield is_followed, f"a host is ended by {by.name} at byte {place}", by, place
     yield finds_the_program, "the program, where nothing says where it is"
     yield says_what_differs, "a host of another wiring"
 
@@ -1684,11 +1958,13 @@ def tries(count, totals):
     yield from boards()
 
 
-def count_bytes(installed):
+def count_bytes(installed, report):
     """How many bytes go each way over a cable that isn't spoilt."""
     with (
         tempfile.TemporaryDirectory(dir=".") as path,
-        contextlib.closing(Room(installed, os.path.abspath(path), "a sound cable")) as room,
+        contextlib.closing(
+            Room(installed, os.path.abspath(path), "a sound cable", report)
+        ) as room,
     ):
         room.write(*SPOILT)
         between = Between(room)
@@ -1699,28 +1975,37 @@ def count_bytes(installed):
             and room.end(between.rack) == "",
             told,
         )
+        for text in room.report.wrong:
+            report.note(text)
         return between.counts
 
 
-def try_one(installed, number, function, what, *given):
-    os.mkdir(f"room-{number}")
-    with contextlib.closing(Room(installed, os.path.abspath(f"room-{number}"), what)) as room:
+def try_one(installed, function, what, *given):
+    """What comes of a case."""
+    with (
+        tempfile.TemporaryDirectory(prefix="room-", dir=".") as path,
+        contextlib.closing(Room(installed, os.path.abspath(path), what)) as room,
+    ):
         try:
             function(room, *given)
         except BaseException:
-            expect(what, False, traceback.format_exc())
+            room.report.note(f"{what}: {traceback.format_exc()}")
+        if not room.report.tried:
+            room.report.note(f"{what}: it looks at nothing")
+        return room.report
 
 
 def try_all(installed, count, word):
-    host.PROGRAM = f"{installed}/bin/exchange"
+    """Tries all cases side by side, and those that are wrong again, one after another."""
+    host.PROGRAM, report = f"{installed}/bin/exchange", Report("rack")
     with ThreadPoolExecutor(2 * len(os.sched_getaffinity(0))) as at_once:
-        named = (it for it in tries(count, count_bytes(installed)) if word in it[1])
-        ended = [at_once.submit(try_one, installed, number, *it) for number, it in enumerate(named)]
-    for it in ended:
-        it.result()
-    if not ended:
-        wrong.append("nothing is tried")
-    print(f"rack of processes: {len(ended)} tried, {len(wrong)} wrong")
+        cases = [it for it in tries(count, count_bytes(installed, report)) if word in it[1]]
+        first = [at_once.submit(try_one, installed, *case) for case in cases]
+    for case, it in zip(cases, first):
+        once = functools.partial(try_one, installed, *case)
+        runs = itertools.chain([it.result()], iter(once, None))
+        harness.add_runs(report, case[1], [*harness.runs_of(runs.__next__)])
+    report.finish(f"{len(cases)} cases, {{tried}} things looked at, {{wrong}} wrong")
 
 
 def main():
@@ -1744,9 +2029,10 @@ def main():
         venv.create(f"{path}/python", symlinks=True)
         sys.executable = f"{path}/python/bin/python3"
         os.chdir(path)
-        try_all(installed, count, " ".join(words))
-        os.chdir("/")
-    sys.exit(1 if wrong else 0)
+        try:
+            try_all(installed, count, " ".join(words))
+        finally:
+            os.chdir("/")
 
 
 if __name__ == "__main__":

@@ -93,6 +93,7 @@ MADE = {
     "last-block-often": lambda: pushes(
         (0, 0, min(t, 2047) // 64, min(t, 2047) % 64) for t in range(4096)
     ),
+    "one-to-all": lambda: pushes((0, t % 64, 1 + t % 31, 0) for t in range(4096)),
     "thirty-three": lambda: equal_transfers(33),
     "sixty-four": lambda: equal_transfers(64),
     "each-to-each": lambda: pushes(

@@ -4,13 +4,17 @@ and compares what it prints and how it ends.
 
     tools/rows/run.py [WORD..]     all rows, or those whose file's name or own name has a word
 
-rows/README.md says how a row is written. A program that isn't built, or is older than its sources,
-is proved and built first. Another one is tried where EXCHANGE has its words.
+rows/README.md says how a row is written. A line of a row has a minute. Of a text that differs
+the lines that do are shown, after `-` those that are wanted, and after `+` those that came.
+
+A program that isn't built, or is older than its sources, is proved and built first. Another one is
+tried where EXCHANGE has its words.
 """
 
 from __future__ import annotations
 
 import array
+import difflib
 import fcntl
 import functools
 import os
@@ -31,8 +35,12 @@ from made import MADE  # noqa: E402
 from reading import Row, Section, Unreadable, read_rows  # noqa: E402
 from sealed import sealed  # noqa: E402
 
-# How many rows may hang before the rest isn't tried, and what is told of one.
-MOST_HANGING, HANGS = 3, "it hangs"
+# Seconds that a line of a row has (the longest takes one or two, and ten on a busy machine), how
+# many rows may hang before the rest isn't tried, and what is said of one.
+SECONDS, MOST_HANGING, HANGS = 60, 3, "it hangs: {} seconds have passed"
+
+# How many lines of a difference are shown, and how much of each.
+MOST_LINES, MOST_SHOWN = 40, 200
 
 # What stands in a standard input that nobody may read.
 UNREAD = b"nobody reads this\n"
@@ -112,9 +120,9 @@ class Ended:
     wrong: str | None
 
 
-def attend(process: subprocess.Popen[bytes], pipes: Pipes, held: Held) -> Ended:
+def attend(process: subprocess.Popen[bytes], pipes: Pipes, held: Held, seconds: float) -> Ended:
     """Waits for the end of what was started."""
-    until, wrong = time.monotonic() + harness.SECONDS, None
+    until, wrong = time.monotonic() + seconds, None
     while True:
         pipes.serve()
         try:
@@ -122,7 +130,7 @@ def attend(process: subprocess.Popen[bytes], pipes: Pipes, held: Held) -> Ended:
             break
         except subprocess.TimeoutExpired:
             if not wrong and (time.monotonic() > until or held.was_read()):
-                wrong = HANGS
+                wrong = HANGS.format(seconds)
                 harness.kill(process)
     if held.was_read():
         wrong = "it reads standard input"
@@ -131,7 +139,7 @@ def attend(process: subprocess.Popen[bytes], pipes: Pipes, held: Held) -> Ended:
     return Ended(out, err, process.returncode, wrong)
 
 
-def run(row: Row, line: str, programs: Path) -> Ended:
+def run(row: Row, line: str, programs: Path, seconds: float) -> Ended:
     """Runs a line of a row in a folder of its own, where `programs` has `exchange`."""
     with harness.room("rows") as folder:
         (folder / "examples").symlink_to(EXAMPLES)
@@ -143,11 +151,26 @@ def run(row: Row, line: str, programs: Path) -> Ended:
             stdout=subprocess.PIPE, stderr=subprocess.PIPE, start_new_session=True,
             env={"PATH": f"{programs}:{tools}:{os.environ['PATH']}", "LC_ALL": "C"},
         )  # fmt: skip
-        ended = attend(process, Pipes(row, folder), held)
+        ended = attend(process, Pipes(row, folder), held, seconds)
         for end in [*inputs, held.write]:
             os.close(end)
         out, err = (it.replace(bytes(folder), b"FOLDER") for it in (ended.out, ended.err))
     return Ended(out, err, ended.status, ended.wrong)
+
+
+def lines_of(text: bytes) -> list[str]:
+    """The lines of a text, as they are shown. One that has no line feed says so."""
+    *lines, rest = text.decode(errors="backslashreplace").split("\n")
+    lines += [f"{rest} (without a line feed)"] if rest else []
+    return ["".join(it if it.isprintable() else repr(it)[1:-1] for it in line) for line in lines]
+
+
+def difference(what: str, found: bytes, wanted: bytes) -> str:
+    """The lines in which a text differs from what is wanted, with a line around them."""
+    lines = [*difflib.unified_diff(lines_of(wanted), lines_of(found), n=1, lineterm="")][2:]
+    more = [f".. and {len(lines) - MOST_LINES} lines more"] if len(lines) > MOST_LINES else []
+    shown = [line[:MOST_SHOWN] for line in lines[:MOST_LINES]]
+    return "\n    ".join([f"{what} differs:", *shown, *more])
 
 
 def fault_of(section: Section, found: bytes) -> str | None:
@@ -159,7 +182,7 @@ def fault_of(section: Section, found: bytes) -> str | None:
     is_well = {
         "begins": found.startswith(piece), "ends": found.endswith(wanted), "has": piece in found,
     }.get(section.form, found == wanted)  # fmt: skip
-    return None if is_well else differs(" ".join(section.words), found, wanted)
+    return None if is_well else difference(" ".join(section.words), found, wanted)
 
 
 def judge(row: Row, told: bytes, ended: Ended) -> list[str]:
@@ -172,15 +195,15 @@ def judge(row: Row, told: bytes, ended: Ended) -> list[str]:
     return [it for it in faults if it]
 
 
-def faults_of(row: Row, programs: Path) -> list[str]:
+def faults_of(row: Row, programs: Path, seconds: float = SECONDS) -> list[str]:
     """Runs the lines of a row, each of which has to print the same, up to one that is wrong."""
     first = None
     for line, told in zip(row.lines, row.told):
-        ended = run(row, line, programs)
+        ended = run(row, line, programs, seconds)
         first = first or ended
         faults = judge(row, told, ended)
         if not faults and ended.out != first.out:
-            faults = [differs(f"as {row.lines[0]}", ended.out, first.out)]
+            faults = [difference(f"what `{row.lines[0]}` prints too", ended.out, first.out)]
         if faults:
             return [f"$ {line}", *faults]
     return []
@@ -198,13 +221,57 @@ def make_program(programs: Path) -> None:
 
 def try_rows(report: Report, rows: Sequence[Row], programs: Path) -> None:
     """Runs rows side by side, and says of each what is wrong, until too many hang."""
-    hanging = 0
+    hanging = []
     tried = harness.side_by_side(lambda row: faults_of(row, programs), rows)
     for row, faults in zip(rows, tried):
         report.judge(f"{row.place}: {row.name}", faults)
-        hanging += HANGS in faults
-        if hanging == MOST_HANGING:
-            sys.exit(f"rows: WRONG: {hanging} rows hang, so the others aren't tried")
+        if HANGS.format(SECONDS) in faults:
+            hanging.append(row.place)
+        if len(hanging) == MOST_HANGING:
+            sys.exit(f"rows: WRONG: {', '.join(hanging)} hang, so the others aren't tried")
+
+
+# Rows that are wrong, with what has to be said of each.
+WRONG_ROWS = """
+row one that hangs
+$ sleep 60
+out
+
+row one that prints other lines
+$ printf 'one\\nTWO\\nthree\\nfour\\nfive'
+out
+    one
+    two
+    three
+    four
+    five
+status 1
+
+row one whose lines print other things
+$ echo one
+$ echo two
+out has
+    o
+"""
+SAID = [
+    ["$ sleep 60", HANGS.format(0.5)],
+    [
+        r"$ printf 'one\nTWO\nthree\nfour\nfive'",
+        "out differs:\n    @@ -1,5 +1,5 @@\n     one\n    -two\n    +TWO\n     three\n"
+        "     four\n    -five\n    +five (without a line feed)",
+        "status: wanted 1, found 0",
+    ],
+    ["$ echo two", "what `echo one` prints too differs:\n    @@ -1 +1 @@\n    -one\n    +two"],
+]
+
+
+def self_test(programs: Path) -> None:
+    """Hands the rows' judge what is wrong."""
+    (programs / "wrong.rows").write_text(WRONG_ROWS)
+    rows = read_rows(programs / "wrong.rows", "wrong.rows")
+    said = [faults_of(row, programs, 0.5) for row in rows]
+    if said != SAID:
+        sys.exit(f"rows: WRONG: what is wrong isn't said: {said}")
 
 
 def read_all(words: Sequence[str]) -> list[Row]:
@@ -217,7 +284,6 @@ def read_all(words: Sequence[str]) -> list[Row]:
 
 
 def main() -> None:
-    harness.self_test()
     report = Report("rows")
     try:
         rows = read_all(sys.argv[1:])
@@ -225,6 +291,7 @@ def main() -> None:
         sys.exit(f"rows: {why}")
     with harness.room("rows") as programs:
         make_program(programs)
+        self_test(programs)
         try_rows(report, rows, programs)
     report.finish()
 

@@ -118,7 +118,7 @@ def main() -> None:
         spare = crates - {item.crate for item in several.get(name, [])}
         if spare and not report.wrong:
             print(f"names: {name} needs no {', '.join(sorted(spare))} in names.txt")
-    report.finish(told=f"{len(several)} names with several meanings, {{wrong}} wrong")
+    report.finish(f"{len(several)} names with several meanings, {{wrong}} wrong")
 
 
 if __name__ == "__main__":

@@ -14,14 +14,19 @@ crate's lib.rt says of the crate, as `laws::NAME`, or by a page that names the c
 paragraph, row or point.
 """
 
-import glob
-import os
+from __future__ import annotations
+
 import re
 import sys
+from collections.abc import Iterable, Iterator
+from functools import cache
+from pathlib import Path
 
-TOP = os.path.dirname(os.path.dirname(os.path.dirname(os.path.abspath(__file__))))
+sys.path.insert(0, str(Path(__file__).resolve().parents[1]))
+
+from harness import REPOSITORY, Report  # noqa: E402
+
 PLACE = ("exchange", "Promises")
-CLAUSE = f"{TOP}/crates/exchange/src/promises.rt"
 # What the ninth rests on beside that clause: `laws::right_is_not_wrong`.
 LAW = ("exchange", "Rights", "RightIsNotWrong")
 
@@ -37,13 +42,21 @@ WORDS = re.compile(r"[^\s(){}\[\],;:.λ→×⊎≡]+")
 PARTS = re.compile(r"\n\s*\n|\n(?=[-|])")
 
 
-def definitions(lines):
+# A file of definitions: its crate, and its name there. A definition has its own name too.
+File = tuple[str, str]
+Definition = tuple[str, str, str]
+
+
+def text_of(path: str) -> str:
+    return (REPOSITORY / path).read_text(encoding="utf-8")
+
+
+def definitions(lines: Iterable[str]) -> dict[str, list[str]]:
     """Each definition's name, with its lines without comments. It ends before a blank line."""
     name, found = None, {}
     for line in lines:
         code = re.sub(r"(^|\s)--.*", "", line).rstrip()
-        head = HEAD.match(code)
-        if head:
+        if head := HEAD.match(code):
             name = head[1]
         elif not line.strip() or code.startswith(("use ", "pub use ", "module ")):
             name = None
@@ -52,132 +65,139 @@ def definitions(lines):
     return found
 
 
-def read():
-    """Each file of definitions: these, and the names that it imports,
-    and those that it hands on."""
-    told, names, handed = {}, {}, {}
-    for path in glob.glob(f"{TOP}/crates/*/specs/**/*.antt", recursive=True):
-        crate, rest = path[len(TOP) + len("/crates/") :].split("/specs/")
-        file = (crate, rest[: -len(".antt")].replace("/", "."))
-        text = text_of(path)
-        told[file], names[file], handed[file] = definitions(text.split("\n")), {}, {}
-        for again, of, place, those in NAMES.findall(text):
-            for one in filter(None, map(str.strip, those.split(","))):
+class Definitions:
+    """All definitions of the repository, by their files."""
+
+    def __init__(self) -> None:
+        self.lines: dict[File, dict[str, list[str]]] = {}
+        # The names that a file imports, of which it hands on some. A file that is imported under
+        # another name has no name in the end.
+        self.names: dict[File, dict[str, tuple[str, str, str | None]]] = {}
+        self.handed_on: dict[File, set[str]] = {}
+        for path in REPOSITORY.glob("crates/*/specs/**/*.antt"):
+            self.read(path)
+
+    def read(self, path: Path) -> None:
+        crate, _, *parts = path.relative_to(REPOSITORY / "crates").with_suffix("").parts
+        file, text = (crate, ".".join(parts)), path.read_text(encoding="utf-8")
+        self.lines[file] = definitions(text.split("\n"))
+        self.names[file], self.handed_on[file] = {}, set()
+        for again, of, place, listed in NAMES.findall(text):
+            for one in filter(None, map(str.strip, listed.split(","))):
                 real, _, alias = one.partition(" as ")
-                names[file][alias or real] = (of, place, real)
+                self.names[file][alias or real] = (of, place, real)
                 if again:
-                    handed[file][alias or real] = (of, place, real)
+                    self.handed_on[file].add(alias or real)
         for of, place, alias in FILES.findall(text):
-            names[file][alias] = (of, place, None)
-    return told, names, handed
+            self.names[file][alias] = (of, place, None)
+
+    def cited(self, file: File, name: str) -> Iterator[Definition]:
+        """What a definition cites."""
+        text = "\n".join(self.lines[file][name])
+        for alias, (of, place, real) in self.names[file].items():
+            if real is None:
+                yield from ((of, place, one) for one in re.findall(rf"\b{alias}\.([\w-]+)", text))
+        for word in set(WORDS.findall(text)):
+            if word in self.lines[file] and word != name:
+                yield (*file, word)
+            elif self.names[file].get(word, (0, 0, None))[2]:
+                yield self.names[file][word]
+
+    def rests_on(
+        self, start: Iterable[Definition]
+    ) -> tuple[dict[Definition, int], set[Definition], set[Definition]]:
+        """The definitions that those cite, with their lines; names that are made from code; and
+        those of the toolchain."""
+        seen, made, others, left = {}, set(), set(), list(start)
+        while left:
+            crate, place, name = one = left.pop()
+            file, is_ours = (crate, place), (REPOSITORY / "crates" / crate).is_dir()
+            if place.startswith(("declared", "contracts")) and is_ours:
+                made.add(one)
+            elif name in self.lines.get(file, {}):
+                if one not in seen:
+                    seen[one] = len(self.lines[file][name])
+                    left += self.cited(file, name)
+            elif name in self.handed_on.get(file, ()):
+                left.append(self.names[file][name])
+            elif is_ours:
+                sys.exit(f"promises: WRONG: {crate}.{place} has no {name}")
+            else:
+                others.add(one)
+        return seen, made, others
 
 
-def cited(file, name, told, names):
-    """What a definition cites: the crate, the file and the name of each."""
-    text = "\n".join(told[file][name])
-    for alias, (of, place, real) in names[file].items():
-        if real is None:
-            yield from ((of, place, one) for one in re.findall(rf"\b{alias}\.([\w-]+)", text))
-    for word in set(WORDS.findall(text)):
-        if word in told[file] and word != name:
-            yield (*file, word)
-        elif names[file].get(word, (0, 0, None))[2]:
-            yield names[file][word]
+@cache
+def code() -> dict[Path, str]:
+    """All files of code, without comments but those on a whole file."""
+    return {
+        path: re.sub(r"(?m)^ *//[^!].*", "", path.read_text(encoding="utf-8"))
+        for path in sorted(REPOSITORY.glob("crates/*/src/**/*.rt"))
+    }
 
 
-def rests_on(start, told, names, handed):
-    """The definitions that those cite, names that are made from code,
-    and those of the toolchain."""
-    seen, made, others, todo = {}, set(), set(), list(start)
-    while todo:
-        crate, place, name = one = todo.pop()
-        file = (crate, place)
-        if place.startswith(("declared", "contracts")) and os.path.isdir(f"{TOP}/crates/{crate}"):
-            made.add(one)
-        elif name in told.get(file, {}):
-            if one not in seen:
-                seen[one] = len(told[file][name])
-                todo += cited(file, name, told, names)
-        elif name in handed.get(file, {}):
-            todo.append(handed[file][name])
-        elif os.path.isdir(f"{TOP}/crates/{crate}"):
-            sys.exit(f"promises: {crate}.{place} has no {name}")
-        else:
-            others.add(one)
-    return seen, made, others
+def is_used(path: Path, name: str, parts: list[str]) -> bool:
+    """Whether a page names a law of this file, its crate does, or code calls it."""
+    crate = path.parents[1].name
+    own = [
+        text
+        for other, text in code().items()
+        if path.parents[1] in other.parents or re.search(rf"\buse {crate}\b", text)
+    ]
+    return (
+        bool(re.search(rf"(?m)^//!.*`laws::{name}`", code().get(path.with_name("lib.rt"), "")))
+        or any(f"`{name}`" in part and re.search(rf"\b{crate}\b", part) for part in parts)
+        or bool(re.search(rf"(?m)^    (let \w+ = )?{name}\(", code()[path]))
+        or any(
+            re.search(rf"(?m)^ *[^/].*laws::{name}\(|^use {crate}::laws::{name};", text)
+            for text in own
+        )
+    )
 
 
-def text_of(path):
-    """What a file holds."""
-    with open(path, encoding="utf-8") as file:
-        return file.read()
+def try_laws(report: Report) -> None:
+    """Looks whether each law is named or called."""
+    pages = [*REPOSITORY.glob("*.md"), *REPOSITORY.glob("docs/*.md")]
+    named = [it for it in pages if it.name != "CHANGES.md"]
+    parts = [part for page in named for part in PARTS.split(page.read_text(encoding="utf-8"))]
+    for path, text in code().items():
+        if path.match("src/laws.rt"):
+            for name in re.findall(r"(?m)^pub fn (\w+)", text):
+                problems = [] if is_used(path, name, parts) else ["nobody names or calls it"]
+                report.judge(f"{path.parents[1].name} {name}", problems, "laws")
 
 
-def unused_laws():
-    """How many laws there are, and those that no page names and no code calls,
-    with their crates."""
-    pages = [f"{TOP}/README.md", f"{TOP}/CONTRIBUTING.md", *glob.glob(f"{TOP}/docs/*.md")]
-    parts = [part for page in pages for part in PARTS.split(text_of(page))]
-    code, laws, unused = {}, 0, []
-    for path in glob.glob(f"{TOP}/crates/*/src/**/*.rt", recursive=True):
-        code[path] = re.sub(r"(?m)^ *//[^!].*", "", text_of(path))
-    for path in sorted(path for path in code if path.endswith("/src/laws.rt")):
-        crate = path.split("/")[-3]
-        about = code.get(path.replace("/laws.rt", "/lib.rt"), "")
-        own = {
-            other: text
-            for other, text in code.items()
-            if f"/{crate}/" in other or re.search(rf"\buse {crate}\b", text)
-        }
-        for name in re.findall(r"(?m)^pub fn (\w+)", code[path]):
-            laws += 1
-            told = re.search(rf"(?m)^//!.*`laws::{name}`", about) or any(
-                f"`{name}`" in part and re.search(rf"\b{crate}\b", part) for part in parts
-            )
-            called = re.search(rf"(?m)^    (let \w+ = )?{name}\(", code[path]) or any(
-                re.search(rf"(?m)^ *[^/].*laws::{name}\(|^use {crate}::laws::{name};", text)
-                for text in own.values()
-            )
-            if not told and not called:
-                unused.append(f"{crate} {name}")
-    return laws, unused
-
-
-def main():
-    told, names, handed = read()
-    document = text_of(f"{TOP}/docs/PROMISES.md")
-    text = text_of(f"{TOP}/crates/exchange/specs/Promises.antt")
-    clause = [n[3] for n in NAMES.findall(text_of(CLAUSE)) if (n[1], n[2]) == PLACE]
-    faults = []
-    blocks = re.findall(r"```antt\n(.*?)```", document, re.S)
-    print(f"promises: {len(blocks)} blocks of definitions compared")
-    for block in blocks:
-        if block not in text:
-            faults.append(f"no such definition: {block.splitlines()[0]}")
-    grammar = rests_on([("command_words", "Jobs", "AskFor")], told, names, handed)[0]
-    for name, lines in re.findall(r"`(\w+)` \(([\d,]+) lines\)", " ".join(document.split())):
-        seen = rests_on([(*PLACE, name)], told, names, handed)[0]
+def try_page(report: Report) -> None:
+    """Compares the page with the definitions of the promises."""
+    page, specs = text_of("docs/PROMISES.md"), text_of("crates/exchange/specs/Promises.antt")
+    words, all_of = " ".join(page.split()), Definitions()
+    for block in re.findall(r"```antt\n(.*?)```", page, re.S):
+        problems = [] if block in specs else ["there is no such definition"]
+        report.judge(block.splitlines()[0], problems, "blocks of definitions")
+    grammar = all_of.rests_on([("command_words", "Jobs", "AskFor")])[0]
+    for name, lines in re.findall(r"`(\w+)` \(([\d,]+) lines\)", words):
+        seen = all_of.rests_on([(*PLACE, name)])[0]
         own = sum(count for one, count in seen.items() if one not in grammar)
-        print(f"promises: {name} rests on {own} lines")
-        if f"{own:,}" != lines:
-            faults.append(f"{name} rests on {own:,} lines, and not on {lines}")
-    start = [(*PLACE, one.strip()) for those in clause for one in those.split(",") if one.strip()]
-    seen, made, others = rests_on([*start, LAW], told, names, handed)
-    all_of = (
+        report.check(f"lines of {name}", lines, f"{own:,}", "counts of lines")
+    clause = NAMES.findall(text_of("crates/exchange/src/promises.rt"))
+    listed = ",".join(names for _, *place, names in clause if tuple(place) == PLACE)
+    start = [(*PLACE, name) for name in map(str.strip, listed.split(",")) if name]
+    seen, made, others = all_of.rests_on([*start, LAW])
+    sentence = (
         f"rest on {sum(seen.values()):,} lines in {len(seen)} definitions. Of these lines "
         f"{sum(grammar.values())} say which arguments ask for which job. Together they cite "
-        f"{len(made)} names "
-        f"that are made from code, and {len(others)} of the toolchain's libraries."
+        f"{len(made)} names that are made from code, and {len(others)} of the toolchain's "
+        "libraries."
     )
-    print(f"promises: all {all_of}")
-    if all_of not in " ".join(document.split()):
-        faults.append("the sentence on all promises isn't so")
-    laws, unused = unused_laws()
-    faults += [f"no page names this law, and no code calls it: {law}" for law in unused]
-    print(f"promises: {laws} laws, each named or called, but for {len(unused)}")
-    for fault in faults:
-        print(f"promises: WRONG: {fault}")
-    sys.exit(1 if faults or not start or not laws else 0)
+    found = re.search(r"rest on [\d,]+ lines in .*?libraries\.", words)
+    report.check("all promises", found and found[0], sentence, "promises in one sentence")
+
+
+def main() -> None:
+    report = Report("promises")
+    try_page(report)
+    try_laws(report)
+    report.finish()
 
 
 if __name__ == "__main__":

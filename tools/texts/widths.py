@@ -78,7 +78,7 @@ def main() -> None:
         if it not in used and not report.wrong:
             print(f"widths: nothing needs {' '.join(it).strip()} in widths.txt")
     told = f"{lines} lines of {files} files, {wider} wider that may be, {{wrong}} wrong"
-    report.finish(told=told)
+    report.finish(told)
 
 
 if __name__ == "__main__":

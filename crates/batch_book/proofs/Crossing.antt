@@ -109,19 +109,7 @@ module _ (L : RattleType) (n : ExchangeName.Ghosts L.Denot) (h : HistoryName.Gho
                   search sendable depth 20,
                   (
                     search sendable depth 20,
-                    (
-                      search sendable depth 20,
-                      (
-                        search sendable depth 20,
-                        (
-                          search sendable depth 20,
-                          (
-                            search sendable depth 20,
-                            (search (crosses, sendable) depth 40, (total.the_send L l, (keeper_send, (search (crosses, sendable) depth 20, tt)))),
-                          ),
-                        ),
-                      ),
-                    ),
+                    (search (crosses, sendable) depth 40, (total.the_send L l, (keeper_send, (search (crosses, sendable) depth 20, tt)))),
                   ),
                 ),
               ),

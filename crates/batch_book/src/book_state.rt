@@ -17,7 +17,7 @@ use crate::call::Call;
 use crate::calling::{apply, is_broken};
 use crate::commit_queue::CommitQueue;
 use crate::naming::ExchangeName;
-use crate::noted::NotedEntry;
+use crate::noted::{AskedCall, NotedEntry};
 use crate::pending_entries::PendingEntries;
 use crate::reply::Reply;
 use crate::seat::{Seat, SeatInner};
@@ -150,8 +150,10 @@ impl<
             &mut self.book,
             &mut share,
             before,
-            session,
-            asked,
+            AskedCall {
+                session,
+                call: asked,
+            },
             &made,
         );
         self.own = Some(its);
@@ -191,31 +193,30 @@ fn note_made<L: ExchangeName, E: PendingEntries, R: Wait>(
     book: &mut Book<E>,
     share: &mut Share<L>,
     before: Noting<L>,
-    session: usize,
-    call: Snapshot<Call>,
+    asked: AskedCall,
     made: &Result<Reply, Unrecorded>,
 ) -> Noting<L>
-    requires session { before.own.session ≡ session }
+    requires session { before.own.session ≡ asked.session }
     requires side { before.its.session ≡ BOOK_SIDE }
     requires parts { 0 < share.old.parts }
     requires few { before.pushed < 18446744073709551615 }
     requires grown { book.old.history ≡ (side_lists L.earlier before.its.list).0
-        ++ made_in (noted session (before.pushed + 1) call.value made.now) }
+        ++ made_in (noted asked.session (before.pushed + 1) asked.call.value made.now) }
     requires durable { book.old.durable ≡ (side_lists L.earlier before.its.list).1 }
     requires many { length (side_lists L.earlier before.its.list).0
         ≡ length L.earlier + before.pushed }
     requires low { are_up_to before.last before.own.list ≡ true }
     ensures history { book.new.history ≡ book.old.history }
     ensures opening { book.new.opening ≡ book.old.opening }
-    ensures session { result.own.session ≡ session }
+    ensures session { result.own.session ≡ asked.session }
     ensures list { result.own.list ≡ before.own.list
-        ++ noted session (before.pushed + 1) call.value made.now }
+        ++ noted asked.session (before.pushed + 1) asked.call.value made.now }
     ensures side { result.its.session ≡ BOOK_SIDE }
     ensures lists { side_lists L.earlier result.its.list ≡ (book.new.history, book.new.durable) }
     ensures many { length book.new.history ≡ length L.earlier + result.pushed }
     ensures low { are_up_to result.last result.own.list ≡ true }
     ensures amount { share.new.amount ≡ share.old.amount
-        + length (made_in (noted session (before.pushed + 1) call.value made.now)) }
+        + length (made_in (noted asked.session (before.pushed + 1) asked.call.value made.now)) }
     ensures parts { share.new.parts ≡ share.old.parts }
 {
     match made {
@@ -232,7 +233,7 @@ fn note_made<L: ExchangeName, E: PendingEntries, R: Wait>(
             let place = pushed + 1;
             let (own, its) = waiting
                 .lock(rt)
-                .enqueue(book, place, share, (own, its), session, call, reply);
+                .enqueue(book, place, share, (own, its), asked, reply);
             Noting {
                 own,
                 its,

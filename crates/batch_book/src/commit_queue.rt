@@ -12,26 +12,21 @@ ghost use Rattle.batch_book.specs.Seats.{IsSynced};
 ghost use Rattle.batch_book.specs.Sides.{side_lists, stood_in, taken_in};
 
 use crate::book::Book;
-use crate::call::Call;
 use crate::ghost_history::{GhostHistory, HistorySnapshot};
 use crate::limits::{BOOK_SIDE, RECORD_SIDE};
 use crate::naming::ExchangeName;
-use crate::noted::NotedEntry;
+use crate::noted::{AskedCall, NotedEntry};
 use crate::pending_entries::PendingEntries;
 use crate::reply::Reply;
 use crate::seat::{Seat, SeatInner, mark};
 use crate::unrecorded::Unrecorded;
+use crate::write_pacing::WritePacing;
 use session_lists::{Keeper, OwnList};
 use std::marker::PhantomData;
 use std::mem;
 use std::snapshot::Snapshot;
 use std::sync::ledger;
 use std::sync::ledger::Share;
-
-/// From how many microseconds on a writing is slow, and the most that a nap takes.
-const SLOW: u64 = 1000;
-
-const LONGEST_NAP: u64 = 20_000;
 
 /// The queue of entries, under a lock of its own that is held for a moment only: the text of those
 /// that weren't drained yet, how many were queued, the ledger's total, and the keeper of the lists.
@@ -45,18 +40,11 @@ pub struct CommitQueue<L: ExchangeName, E: PendingEntries> {
     pub count: u64,
     // Up to which place all entries are durable.
     pub front: u64,
-    // Whether who writes waits for more entries first, up to which place some may soon come, and
-    // how many microseconds it naps meanwhile: none where a writing is quick.
-    pub groups_writes: bool,
-    pub due: u64,
-    pub nap: u64,
     // Whether a seat writes.
     pub writes: bool,
-    // How many writings were begun, and up to which place entries went with them.
-    pub round: u64,
+    // Up to which place entries went with the writings that were begun.
     pub taken_over: u64,
-    // Whether there was no memory to queue an entry. Then it may go with a later writing.
-    pub late: bool,
+    pub pacing: WritePacing,
     pub queued: Snapshot<GhostHistory>,
     pub entries: ledger::Book<L>,
     pub keeper: Keeper<NotedEntry, L>,
@@ -88,16 +76,12 @@ impl<L: ExchangeName, E: PendingEntries> CommitQueue<L, E> {
 
     /// Whether an entry of this place goes with a writing whose number is odd.
     pub fn is_odd(&self, place: u64) -> bool {
-        if place <= self.taken_over {
-            self.round % 2 == 1
-        } else {
-            self.round % 2 == 0
-        }
+        (place <= self.taken_over) == self.pacing.is_odd()
     }
 
     /// Whether who sleeps may do so where its entry's writing doesn't wake it.
     pub fn wakes_all(&self) -> bool {
-        self.has_write_failed() || self.late
+        self.has_write_failed() || self.pacing.late
     }
 
     /// Whether entries up to this place have to be written. Then the seat that asks writes them.
@@ -113,12 +97,8 @@ impl<L: ExchangeName, E: PendingEntries> CommitQueue<L, E> {
     /// durable. Each whose entry was written may soon ask again.
     pub fn end(&mut self, before: u64, micros: u64) {
         self.writes = false;
-        self.due = self.count.saturating_add(self.front.saturating_sub(before));
-        self.nap = if micros < SLOW {
-            0
-        } else {
-            (micros / 8).min(LONGEST_NAP)
-        };
+        let written = self.front.saturating_sub(before);
+        self.pacing.end(self.count.saturating_add(written), micros);
     }
 
     /// Notes a call whose entry has this place, and queues what is pending at the book's side.
@@ -129,23 +109,22 @@ impl<L: ExchangeName, E: PendingEntries> CommitQueue<L, E> {
         place: u64,
         share: &mut Share<L>,
         lists: (OwnList<NotedEntry, L>, OwnList<NotedEntry, L>),
-        session: usize,
-        call: Snapshot<Call>,
+        asked: AskedCall,
         reply: &Reply,
     ) -> (OwnList<NotedEntry, L>, OwnList<NotedEntry, L>)
-        requires session { lists.0.session ≡ session }
+        requires session { lists.0.session ≡ asked.session }
         requires side { lists.1.session ≡ BOOK_SIDE }
         requires logged { is_logged reply.now ≡ true }
         requires parts { 0 < share.old.parts }
         requires grown { book.old.history ≡ (side_lists L.earlier lists.1.list).0
-            ++ made_in (note session place call.value reply.now ∷ []) }
+            ++ made_in (note asked.session place asked.call.value reply.now ∷ []) }
         requires durable { book.old.durable ≡ (side_lists L.earlier lists.1.list).1 }
         requires place { length book.old.history ≡ length L.earlier + place }
         ensures history { book.new.history ≡ book.old.history }
         ensures opening { book.new.opening ≡ book.old.opening }
-        ensures session { result.0.session ≡ session }
+        ensures session { result.0.session ≡ asked.session }
         ensures list { result.0.list ≡ lists.0.list
-            ++ note session place call.value reply.now ∷ [] }
+            ++ note asked.session place asked.call.value reply.now ∷ [] }
         ensures side { result.1.session ≡ BOOK_SIDE }
         ensures lists { side_lists L.earlier result.1.list
             ≡ (book.new.history, book.new.durable) }
@@ -155,9 +134,7 @@ impl<L: ExchangeName, E: PendingEntries> CommitQueue<L, E> {
         let (own, its) = lists;
         let its = self.keeper.compare(its);
         self.entries.add(share, 1);
-        let own = self
-            .keeper
-            .add(own, &NotedEntry::of(session, place, call, reply));
+        let own = self.keeper.add(own, &NotedEntry::of(asked, place, reply));
         drain_into::<L, E>(
             book,
             place,
@@ -165,7 +142,7 @@ impl<L: ExchangeName, E: PendingEntries> CommitQueue<L, E> {
             &mut self.queued,
             &mut self.count,
         );
-        self.late |= self.count != place;
+        self.pacing.late |= self.count != place;
         let all = Snapshot::of(&book.past());
         let note = NotedEntry::side(BOOK_SIDE, 0, &all, &Snapshot::of(&self.queued));
         let its = self.keeper.add(its, &note);
@@ -195,7 +172,7 @@ impl<L: ExchangeName, E: PendingEntries> CommitQueue<L, E> {
         let note = NotedEntry::side(RECORD_SIDE, self.front, &all, &all);
         let own = self.keeper.add(own, &note);
         mem::swap(&mut self.text, spare);
-        self.round = self.round.saturating_add(1);
+        self.pacing.round = self.pacing.round.saturating_add(1);
         self.taken_over = self.count;
         (all, self.count, own)
     }

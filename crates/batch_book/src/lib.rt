@@ -57,6 +57,7 @@ mod shared;
 mod shared_batch;
 mod stored_batch;
 mod unrecorded;
+mod write_pacing;
 mod writer_state;
 
 pub use book::{BareBook, Book};

@@ -13,7 +13,7 @@ use crate::call::Call;
 use crate::calling::{apply, is_broken};
 use crate::entry_log::EntryLog;
 use crate::naming::ExchangeName;
-use crate::noted::{NotedEntry, note_call};
+use crate::noted::{AskedCall, NotedEntry, note_call};
 use crate::reply::Reply;
 use crate::seat::{Seat, SeatInner, mark};
 use crate::unrecorded::Unrecorded;
@@ -151,9 +151,11 @@ impl<L: ExchangeName, P: ConfigPort, W: WireMaker + Sync, G: Gate + Sync, H: Ent
             &mut self.entries,
             &mut share,
             own,
-            asked,
+            AskedCall {
+                session,
+                call: asked,
+            },
             &made,
-            session,
             0,
         );
         let access = ExchangeAccess {

@@ -25,6 +25,13 @@ pub struct NotedEntry {
     lists: Option<(Snapshot<HistorySnapshot>, Snapshot<HistorySnapshot>)>,
 }
 
+/// A call of this session, which is asked. It takes no memory.
+#[derive(Drop)]
+pub struct AskedCall {
+    pub session: usize,
+    pub call: Snapshot<Call>,
+}
+
 impl Model for NotedEntry {
     ghost use Rattle.std.specs.Prelude.{option_map};
     ghost use Rattle.batch_book.specs.Recording.{Noted};
@@ -45,12 +52,12 @@ impl SessionItem for NotedEntry {
 
 impl NotedEntry {
     /// A call, its reply, and the place of its entry.
-    pub(crate) fn of(session: usize, place: u64, call: Snapshot<Call>, reply: &Reply) -> NotedEntry
-        ensures { result ≡ note session place call.value reply.now }
+    pub(crate) fn of(asked: AskedCall, place: u64, reply: &Reply) -> NotedEntry
+        ensures { result ≡ note asked.session place asked.call.value reply.now }
     {
         NotedEntry {
-            session: Snapshot::of(&session),
-            made: Some((call, Snapshot::of(reply))),
+            session: Snapshot::of(&asked.session),
+            made: Some((asked.call, Snapshot::of(reply))),
             place: Snapshot::of(&place),
             lists: None,
         }
@@ -94,21 +101,22 @@ pub(crate) fn note_call<L: ExchangeName>(
     entries: &mut ledger::Book<L>,
     share: &mut Share<L>,
     own: OwnList<NotedEntry, L>,
-    call: Snapshot<Call>,
+    asked: AskedCall,
     made: &Result<Reply, Unrecorded>,
-    session: usize,
     place: u64,
 ) -> OwnList<NotedEntry, L>
-    requires session { own.session ≡ session }
+    requires session { own.session ≡ asked.session }
     requires parts { 0 < share.old.parts }
     ensures history { keeper.new.history
-        ≡ keeper.old.history ++ noted session place call.value made.now }
-    ensures list { result.list ≡ own.list ++ noted session place call.value made.now }
-    ensures session { result.session ≡ session }
+        ≡ keeper.old.history ++ noted asked.session place asked.call.value made.now }
+    ensures list { result.list ≡ own.list ++ noted asked.session place asked.call.value made.now }
+    ensures session { result.session ≡ asked.session }
     ensures total { entries.new.total
-        ≡ entries.old.total + length (made_in (noted session place call.value made.now)) }
+        ≡ entries.old.total
+        + length (made_in (noted asked.session place asked.call.value made.now)) }
     ensures amount { share.new.amount
-        ≡ share.old.amount + length (made_in (noted session place call.value made.now)) }
+        ≡ share.old.amount
+        + length (made_in (noted asked.session place asked.call.value made.now)) }
     ensures parts { share.new.parts ≡ share.old.parts }
 {
     match made {
@@ -117,7 +125,7 @@ pub(crate) fn note_call<L: ExchangeName>(
                 return own;
             }
             entries.add(share, 1);
-            keeper.add(own, &NotedEntry::of(session, place, call, reply))
+            keeper.add(own, &NotedEntry::of(asked, place, reply))
         }
         Err(_) => own,
     }

@@ -24,6 +24,7 @@ use crate::noted::NotedEntry;
 use crate::recorder::Recorder;
 use crate::seat::Seat;
 use crate::shared::{Locks, Shared};
+use crate::write_pacing::WritePacing;
 use crate::writer_state::{GroupCommit, WriterState};
 use crossbar::ConfigPort;
 use exchange_limits::MAX_SESSIONS;
@@ -226,7 +227,6 @@ fn part<L: ExchangeName, P: ConfigPort, W: WireMaker, G, H: History>(
     let (own, its) = deal_sides(&mut keeper, sessions);
     let queued = book.past();
     let taken = Snapshot::of(&book.past());
-    let groups_writes = recorder.groups_writes();
     // Asked for only for its contract, which says that no text is after all entries.
     recorder.is_whole();
     Locks::Group(GroupCommit {
@@ -240,13 +240,9 @@ fn part<L: ExchangeName, P: ConfigPort, W: WireMaker, G, H: History>(
             text: Vec::new(alloc),
             count: 0,
             front: 0,
-            groups_writes,
-            due: 0,
-            nap: 0,
             writes: false,
-            round: 0,
             taken_over: 0,
-            late: false,
+            pacing: WritePacing::new(recorder.groups_writes()),
             queued,
             entries,
             keeper,

@@ -26,13 +26,6 @@ use std::sync::{Condvar, Mutex, MutexGuard, Wait};
 use std::thread::{sleep, yield_now};
 use std::time::{Clock, Duration, Instant};
 
-/// How often a seat lets other threads run while more entries come, before it writes, or while
-/// another writes, before it sleeps: where none waits for the disk a writing is done sooner than
-/// who sleeps is woken.
-const GROUP_YIELDS: usize = 8;
-/// How often it looks where who writes waits for more entries: not at all where that takes long.
-const GROUP_SPINS: usize = 2;
-
 /// The recorder, all entries that were drained, the list of what was noted of these, and a spare
 /// buffer.
 #[derive(Drop)]
@@ -115,7 +108,7 @@ impl<L: ExchangeName, P: ConfigPort, W: WireMaker, G, H: History> GroupCommit<L,
         let writes = side.begin(last);
         let mut is_odd = false;
         if writes {
-            let (groups_writes, front) = (side.groups_writes, side.front);
+            let (groups_writes, front) = (side.pacing.groups_writes, side.front);
             gather(rt, &self.waiting, side);
             let began = if groups_writes {
                 Instant::now(rt).ok()
@@ -125,7 +118,7 @@ impl<L: ExchangeName, P: ConfigPort, W: WireMaker, G, H: History> GroupCommit<L,
             self.record.lock(rt).flush(rt, &self.waiting);
             side = self.waiting.lock(rt);
             side.end(front, micros_since(rt, began));
-            is_odd = side.round % 2 == 1;
+            is_odd = side.pacing.is_odd();
         }
         let wakes_all = side.wakes_all();
         let settled = side.sync(seat);
@@ -162,11 +155,11 @@ fn gather<L: ExchangeName, E: PendingEntries, R: Wait + Clock>(
     waiting: &Mutex<CommitQueue<L, E>>,
     side: MutexGuard<CommitQueue<L, E>>,
 ) {
-    let turns = if side.groups_writes { GROUP_YIELDS } else { 0 };
-    let nap = Duration::from_micros(side.nap);
-    let (mut count, due) = (side.count, side.due);
+    let looks = side.pacing.writer_looks();
+    let nap = Duration::from_micros(side.pacing.nap);
+    let (mut count, due) = (side.count, side.pacing.due);
     drop(side);
-    for _ in 0..turns {
+    for _ in 0..looks {
         if due <= count {
             break;
         }
@@ -192,12 +185,7 @@ fn wait_until_durable<'b, L: ExchangeName, E: PendingEntries, R: Wait>(
     place: u64,
 ) -> MutexGuard<'b, CommitQueue<L, E>> {
     let mut side = waiting.lock(rt);
-    let looks = match (side.groups_writes, side.nap) {
-        (false, _) => GROUP_YIELDS,
-        (true, 0) => GROUP_SPINS,
-        (true, _) => 0,
-    };
-    for _ in 0..looks {
+    for _ in 0..side.pacing.waiter_looks() {
         if !side.must_wait(place) {
             return side;
         }

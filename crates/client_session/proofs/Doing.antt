@@ -4,10 +4,10 @@ use Rattle.std.specs.List.{AllByRecursion}
 use Rattle.std.proofs.lemmas.List.{map-append}
 use Rattle.batch.specs.declared.fault.BatchFault.{BatchFault}
 use Rattle.batch.specs.declared.fault.BatchFault.TheVariants.{NoMemory}
-use Rattle.batch.specs.Faults.{IsFirstFault, NeedsMemory}
+use Rattle.batch.specs.Faults.{IsFirstFault}
 use Rattle.batch.specs.declared.transfer.Transfer.{Transfer}
 use Rattle.batch.specs.ShapeView.{ShapeView}
-use Rattle.schedule_certificate.specs.Plans.{Plan, IsPlan}
+use Rattle.schedule_certificate.specs.Plans.{Plan}
 use Rattle.batch_book.specs.declared.entry.Entry.{Entry}
 use Rattle.batch_book.specs.declared.call.Call.{Call}
 use Rattle.batch_book.specs.declared.call.Call.TheVariants as call
@@ -87,7 +87,7 @@ acts_call old new id c r line IsSo h so e = record { answer = tells old.session 
 
 pub called : (old new : SeatView) (id : ℕ) (c : Call) (r : Reply) (line : List ℕ) → IsCalled old c r new → line ≡ reply_line id r
     → Acts old new (TellsReply old.session id c) line
-called old new id c r line h e = acts_call old new id c r line (TellsReply old.session id c) h (r, h.answers, refl) e
+called old new id c r line h e = acts_call old new id c r line (TellsReply old.session id c) h (r, refl) e
 
 -- a call wasn't made, and nothing was added before
 pub breaks : (old new : SeatView) (fault : ServeFault) (HasBegun : List Entry → Type 0) → fault ≡ Record → IsUncalled old new → HasBegun []
@@ -120,24 +120,24 @@ plans old new id batch a line did so e = record { answer = a; did = did; is_so =
 
 -- a batch was fetched, and its plan settled
 pub settled : (old mid new : SeatView) (id : ℕ) (batch : List Transfer) (plan : Plan) (line : List ℕ) → IsCalled old (call.Fetch id) (Fetched batch) mid
-    → IsPlan plan → plan.batch ≡ batch → Acts mid new (TellsReply mid.session id (call.Settle id plan)) line → Acts old new (Plans old.session id) line
-settled old mid new id batch plan line h shortest of acts =
+    → plan.batch ≡ batch → Acts mid new (TellsReply mid.session id (call.Settle id plan)) line → Acts old new (Plans old.session id) line
+settled old mid new id batch plan line h of acts =
     let r = acts.is_so.0 in
-    let same : acts.answer ≡ tells old.session id (call.Settle id plan) r = acts.is_so.2 ∙ ap (λ by. tells by id (call.Settle id plan) r) h.goes_on.session in
+    let same : acts.answer ≡ tells old.session id (call.Settle id plan) r = acts.is_so.1 ∙ ap (λ by. tells by id (call.Settle id plan) r) h.goes_on.session in
     let second : Did mid new (tells old.session id (call.Settle id plan) r) = subst (Did mid new) same acts.did in
     plans old new id batch (settles old.session id batch plan r) line
     (did_more old mid new (entry old.session (call.Fetch id) (Fetched batch) ∷ []) _ [] (reply_line id r) (reply_line id r)
     (did_call old mid (call.Fetch id) (Fetched batch) [] h) second)
-    (inl (plan, r, shortest, of, acts.is_so.1, refl))
+    (inl (plan, r, of, refl))
     (acts.line_is ∙ ap (λ (x : CommandOutcome). x.line) same)
 
 -- and a call with its plan wasn't made, or it was settled
 pub settled_or : {T : Type 0} (old mid new : SeatView) (id : ℕ) (batch : List Transfer) (plan : Plan) (line : List ℕ) (r : Result T ServeFault)
-    → IsCalled old (call.Fetch id) (Fetched batch) mid → IsPlan plan → plan.batch ≡ batch
+    → IsCalled old (call.Fetch id) (Fetched batch) mid → plan.batch ≡ batch
     → IsDoneOrFailed mid new (TellsReply mid.session id (call.Settle id plan)) (λ es. es ≡ []) line r → IsDoneOrFailed old new (Plans old.session id)
     (IsFetching old.session id) line r
-settled_or old mid new id batch plan line (Ok x) h shortest of does = settled old mid new id batch plan line h shortest of does
-settled_or old mid new id batch plan line (Err e) h shortest of b = record {
+settled_or old mid new id batch plan line (Ok x) h of does = settled old mid new id batch plan line h of does
+settled_or old mid new id batch plan line (Err e) h of b = record {
   fault_is = b.fault_is;
   goes_on = goes_on true old mid new h.goes_on b.goes_on;
   entries = entry old.session (call.Fetch id) (Fetched batch) ∷ [];
@@ -162,7 +162,7 @@ pub unfetched : (old new : SeatView) (id : ℕ) (r : Reply) (line : List ℕ) �
     → ((batch : List Transfer) → r ≡ Fetched batch → ⊥) → line ≡ reply_line id r → Acts old new (Plans old.session id) line
 unfetched old new id (Fetched b) line h other e = absurd (other b refl)
 unfetched old new id (Refused why) line h other e = acts_call old new id (call.Fetch id) (Refused why) line (Plans old.session id) h
-    (inl (why, h.answers, refl)) e
+    (inl (why, refl)) e
 unfetched old new id r line h other e = absurd h.answers
 
 -- ---- the progress word
@@ -190,11 +190,11 @@ tells_fault p shape text fault line same other first e =
 
 -- the first fault of a batch text is told, or want of memory
 pub faulty : (p : SeatView) (shape : ShapeView) (text : List ℕ) (fault : BatchFault) (line : List ℕ) → shape ≡ p.shape
-    → (fault ≢ NoMemory → IsFirstFault shape text fault) → (fault ≡ NoMemory → NeedsMemory shape text) → line ≡ refusal_line (of_batch fault)
+    → (fault ≢ NoMemory → IsFirstFault shape text fault) → line ≡ refusal_line (of_batch fault)
     → Acts p p (Submits p.shape p.session text) line
-faulty p shape text NoMemory line same first needs e = says p (Submits p.shape p.session text) (refusal_line refusal.NoMemory) line
-    (inr (inr (subst (λ (x : ShapeView). NeedsMemory x text) same (needs refl), refl))) e
-faulty p shape text fault line same first needs e = tells_fault p shape text fault line same (λ x. cc) first e
+faulty p shape text NoMemory line same first e = says p (Submits p.shape p.session text) (refusal_line refusal.NoMemory) line
+    (inr (inr refl)) e
+faulty p shape text fault line same first e = tells_fault p shape text fault line same (λ x. cc) first e
 
 -- the command that there is
 pub which : (o : Option SessionCommand) (x y : SessionCommand) → o ≡ Some x → x ≡ y → o ≡ Some y

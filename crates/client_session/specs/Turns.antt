@@ -8,15 +8,14 @@ use Rattle.batch.specs.declared.fault.BatchFault.TheVariants.{NoMemory}
 use Rattle.batch.specs.declared.transfer.Transfer.{Transfer}
 use Rattle.batch.specs.ShapeView.{ShapeView}
 use Rattle.batch.specs.Text.{Denotes}
-use Rattle.batch.specs.Faults.{IsFirstFault, NeedsMemory}
-use Rattle.schedule_certificate.specs.Plans.{Plan, IsPlan}
+use Rattle.batch.specs.Faults.{IsFirstFault}
+use Rattle.schedule_certificate.specs.Plans.{Plan}
 use Rattle.batch_book.specs.declared.entry.Entry.{Entry}
 use Rattle.batch_book.specs.declared.call.Call.{Call}
 use Rattle.batch_book.specs.declared.call.Call.TheVariants as call
 use Rattle.batch_book.specs.declared.refusal.BookRefusal.{BookRefusal}
 use Rattle.batch_book.specs.declared.reply.Reply.{Reply}
 use Rattle.batch_book.specs.declared.reply.Reply.TheVariants.{Fetched, Refused}
-use Rattle.batch_book.specs.Answering.{IsReplyTo}
 use Rattle.batch_book.specs.History.{entry}
 use Rattle.batch_book.specs.Values.{value_of}
 use Rattle.batch_book.specs.declared.limits.TheConstants.{RUN_STEP}
@@ -53,18 +52,19 @@ refuses why = plain_answer [] (refusal_line why)
 abbrev pub tells : ℕ → ℕ → Call → Reply → CommandOutcome
 tells by id call reply = plain_answer (logged by call reply) (reply_line id reply)
 
--- a call was made, and its reply is the line
+-- A call was made, and its reply is the line. The book's history says which reply it is, unless it
+-- is one of the two that no history has.
 abbrev pub TellsReply : ℕ → ℕ → Call → CommandOutcome → Type 0
-TellsReply by id call a = (reply : Reply) × IsReplyTo call reply × (a ≡ tells by id call reply)
+TellsReply by id call a = (reply : Reply) × (a ≡ tells by id call reply)
 
 -- The lines of a batch: what they denote was submitted, or their first fault is the line, or there
--- was no memory for a transfer that they have.
+-- was no memory for them.
 abbrev pub Submits : ShapeView → ℕ → List ℕ → CommandOutcome → Type 0
 Submits shape by text a =
     ((batch : List Transfer) × Denotes shape text batch × TellsReply by 0 (call.Submit batch) a)
     ⊎ ((fault : BatchFault) × (fault ≢ NoMemory) × IsFirstFault shape text fault
     × (a ≡ refuses (of_batch fault)))
-    ⊎ (NeedsMemory shape text × (a ≡ refuses refusal.NoMemory))
+    ⊎ (a ≡ refuses refusal.NoMemory)
 
 -- a batch was fetched, and a plan of it was settled: this was the reply, which is the line
 abbrev pub settles : ℕ → ℕ → List Transfer → Plan → Reply → CommandOutcome
@@ -76,17 +76,14 @@ settles by id batch plan reply =
 -- to plan it.
 abbrev pub Settles : ℕ → ℕ → List Transfer → CommandOutcome → Type 0
 Settles by id batch a =
-    ((plan : Plan) × (reply : Reply) × IsPlan plan × (plan.batch ≡ batch)
-    × IsReplyTo (call.Settle id plan) reply
-    × (a ≡ settles by id batch plan reply))
+    ((plan : Plan) × (reply : Reply) × (plan.batch ≡ batch) × (a ≡ settles by id batch plan reply))
     ⊎ (a ≡ plain_answer (entry by (call.Fetch id) (Fetched batch) ∷ [])
     (refusal_line refusal.NoMemory))
 
 -- `plan`: fetching was refused, and that is the line; or a batch was fetched
 abbrev pub Plans : ℕ → ℕ → CommandOutcome → Type 0
 Plans by id a =
-    ((why : BookRefusal) × IsReplyTo (call.Fetch id) (Refused why)
-    × (a ≡ tells by id (call.Fetch id) (Refused why)))
+    ((why : BookRefusal) × (a ≡ tells by id (call.Fetch id) (Refused why)))
     ⊎ ((batch : List Transfer) × Settles by id batch a)
 
 -- `progress`: the word was read

@@ -102,13 +102,14 @@ BATCH is a batch text and SCHEDULE a schedule text, with the certificate part or
 without it, in the form that `exchange plan --help` shows.
 
 The answer is a picture of the schedule, the text of an SVG file.
-Each module that takes part has a row, and each setting a column. The upper half
-of a row shows the transfers that link 0 of the module starts, the lower half
-those that link 3 answers. A cell has the number and the colour of the module at
-the other end, and an arrow to the right where words go there, or to the left
-where they come from there. Point at a cell, and the browser shows its transfer.
-The half of the busiest link is framed. A dashed line stands before each setting
-that changes the switch.
+Each module that takes part has a row, and each setting a column. After 32
+columns the next ones stand below, with all rows again. The upper half of a row
+shows the transfers that link 0 of the module starts, the lower half those that
+link 3 answers. A cell has the number and the colour of the module at the other
+end, and an arrow to the right where words go there, or to the left where they
+come from there. Below that it has the number of its transfer. Point at a cell,
+and the browser shows the transfer. The half of the busiest link is framed. A
+dashed line stands before each setting that changes the switch.
 
 Any schedule of BATCH is drawn. The picture's title says whether its settings are
 `the fewest`, or `where F are enough`. It says how often the switch changes, as
@@ -117,7 +118,7 @@ settings` or `at least L`. Last comes `certified`, `not certified` or `no
 certificate`. With --settings the picture has the columns of settings A to B
 alone, counted from 0, both of them:
   ./exchange draw BATCH SCHEDULE --settings 0..31 > first.svg
-Common tools draw at most 32767 pixels in width. Where the picture is wider, a
+Common tools draw at most 32767 pixels in height. Where the picture is higher, a
 line on standard error says so.
 
 With --prices the answer is no picture, but prices that show how often the switch

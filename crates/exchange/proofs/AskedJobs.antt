@@ -3,7 +3,7 @@ use Rattle.std.proofs.Common.{◌≡◌, ◌≤◌, ◌∙◌, ◌++◌, ℕ, ze
 use Rattle.std.specs.Prelude.{IfOk, ⊤}
 use Rattle.std.specs.Io.KnownBytes.{Appends}
 use Rattle.clap.specs.Words.{Text}
-use Rattle.command_words.specs.Jobs.{AskFor, Files, file_uses, text_files}
+use Rattle.command_words.specs.Jobs.{AskFor, Files, text_files}
 use Rattle.command_words.specs.declared.jobs.ArgumentsFault.TheVariants.{Clap, NoMemory}
 use Rattle.command_words.specs.declared.jobs.Job.{Job}
 use Rattle.command_words.specs.declared.jobs.Job.TheVariants.{Sessions, Texts}
@@ -18,10 +18,9 @@ use Rattle.exchange.proofs.HeldFiles.{held_files}
 use Rattle.exchange.proofs.PromisedCalls.{Came, HasNone}
 use Rattle.exchange.specs.Ends.{IsCutFor, IsDone, IsDoneInPart, IsEndForArguments, IsPrinted, Keeping, Leaving, Streams, printed_of}
 use Rattle.exchange.specs.Keeping.{AreKeptBut}
-use Rattle.exchange.specs.Promises.{HoldTexts, AsksFor, HasGivenUp, KeepsApart, Run, run_of}
+use Rattle.exchange.specs.Promises.{HoldTexts, AsksFor, HasGivenUp, Run, run_of}
 use Rattle.exchange.specs.Responses.{Given, IsJobAnswer, IsJobCut, IsResponseTo, IsTextAnswer, IsToldCut, Named, Response}
 use Rattle.exchange.specs.declared.limits.TheConstants.{MISUSED, UNWRITTEN}
-use Rattle.named_files.specs.DistinctFiles.{AreSeenApart}
 use Rattle.named_files.specs.Contents.{Holding}
 use Rattle.named_files.specs.Notes.{IsToldInPart, unanswered}
 use Rattle.named_files.specs.Outputs.{no_write_failures, none_opened}
@@ -163,7 +162,7 @@ pub record Responded (named : Named) (given : Given) (ports : Ways) (run : Run) 
 pub record ToldInPart (named : Named) (given : Given) (ports : Ways) (run : Run) (job : Job) : Type 0 where
   pub told : List ℕ
   pub ends : List SessionEnd
-  pub cut : IsJobCut named.holds given job ports ends told
+  pub cut : IsJobCut named given job ports ends told
   pub prints : (missing : List ℕ) → run.prints (told ++ missing)
   pub status : run.status ≡ REFUSED
 
@@ -184,21 +183,6 @@ pub jobs_come : (e : JobEnd) (after : Ways) → ((job : Job) (response : Respons
 jobs_come e after same none_so is request asks = elim (end_of e request asks is) [
   | inl done ↦ inl (record { response = done.0; is = done.1; ports_are = same request.job done.0 done.2; prints = done.3.text; status = done.3.status })
   | inr gives_up ↦ inr (inr (record { prints = gives_up.1.text; status = gives_up.1.status; ports_are = none_so gives_up.0 }))
-]
-
--- ---- what is written is apart from what is read
-
-apart_of : (e : JobEnd) (job : Job) (response : Response) → IsResponseTo e.named e.given job response → IsPrinted e.streams.out_before e.streams.out_after
-    (printed_of response) e.code → AreSeenApart e.named.leads (file_uses job) ⊎ (HasGivenUp (ended_run e) ⊎ (e.code ≡ UNWRITTEN))
-apart_of e job response (inl comes) printed = inl comes.0
-apart_of e job response (inr none) printed =
-    let text = subst (λ (told : List ℕ). Appends e.streams.out_before e.streams.out_after (told ++ response.end.text)) none.0 printed.text in
-    inr (inl (gave_up (ended_run e) response.end none.4 text))
-
-pub keeps_apart : (e : JobEnd) → EndsSo e → KeepsApart e.named.leads (ended_run e)
-keeps_apart e is job asks = elim (end_of e (record { job = job; is_quiet = asks.0 }) asks.1 is) [
-  | inl done ↦ apart_of e job done.0 done.1 done.3
-  | inr gives_up ↦ inr (inl (inl gives_up.1.text))
 ]
 
 -- ---- where the arguments ask for nothing
@@ -291,8 +275,8 @@ module _ {C : Type 0} (received : C → Closed) (receipts : Receipts C) (ends : 
     in_part request (inr (told, cut, keeping, part)) = record {
       status = REFUSED;
       either = inr refl;
-      texts = λ job same asks. absurd (subst (λ (j : Job). IsToldCut j cut.0 cut.1 given.ports left.ports told) same cut.3);
-      sessions = λ rack job same. absurd (subst (λ (j : Job). IsToldCut j cut.0 cut.1 given.ports left.ports told) same cut.3);
+      texts = λ job same asks. absurd (subst (λ (j : Job). IsToldCut j cut.1 cut.2 given.ports left.ports told) same cut.4);
+      sessions = λ rack job same. absurd (subst (λ (j : Job). IsToldCut j cut.1 cut.2 given.ports left.ports told) same cut.4);
       comes = inr (inl (record { told = told; ends = left.ends; cut = cut; prints = λ missing. (told, missing, refl, part); status = refl }));
     }
 

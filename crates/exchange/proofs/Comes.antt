@@ -6,7 +6,7 @@ use Rattle.plan_answers.specs.Refusals.{Printed}
 use Rattle.batch_book.specs.History.{BookView}
 use Rattle.drive_answers.specs.Ways.{Ways}
 use Rattle.session_answers.specs.HostAnswers.{SessionEnd}
-use Rattle.command_words.specs.Jobs.{Files, files_of}
+use Rattle.command_words.specs.Jobs.{Files, file_uses, files_of}
 use Rattle.command_words.specs.declared.jobs.Job.{Job}
 use Rattle.command_words.specs.declared.jobs.Job.TheVariants.{Ports as OverPorts, Texts}
 use Rattle.command_words.specs.declared.jobs.PortJob.{PortJob}
@@ -17,7 +17,8 @@ use Rattle.named_files.specs.Notes.{IsNoAnswer, IsRefused}
 use Rattle.exchange.specs.Keeping.{AreKept, AreKeptBut}
 use Rattle.named_files.specs.Outputs.{no_write_failures}
 use Rattle.named_files.specs.Streams.{Closed}
-use Rattle.exchange.specs.Responses.{Given, IsAnswerTo, IsJobAnswer, IsJobCut, IsPortAnswer, IsTextAnswer, IsToldCut, given_by}
+use Rattle.exchange.specs.Responses.{Given, IsAnswerTo, IsJobAnswer, IsJobCut, IsPortAnswer, IsTextAnswer, IsToldCut, Named, given_by}
+use Rattle.named_files.specs.DistinctFiles.{AreSeenApart}
 use Rattle.recorded_sessions.specs.declared.job_result.JobResult.{JobResult}
 use Rattle.named_files.specs.declared.write_failures.WriteFailures.{WriteFailures}
 use Rattle.exchange.specs.declared.answered.NotedAnswer.{NotedAnswer}
@@ -107,30 +108,30 @@ told_ports (Err m) before after holds received job files given opens ends receip
 
 -- an answer to a job whose files were read
 pub finish : {C : Type 0} (r : Result JobResult JobFailure) (done : Result NotedAnswer JobFailure) (before after : Option (List ℕ))
-    (holds : List ℕ → List ℕ → Type 0) (received : C → Closed) (job : Job) (files : Files (List ℕ)) (rest : Option (List ℕ)) (given : Given) (opens : Ways)
+    (named : Named) (received : C → Closed) (job : Job) (files : Files (List ℕ)) (rest : Option (List ℕ)) (given : Given) (opens : Ways)
     (ends : List SessionEnd) (receipts : Receipts C) (lost : WriteFailures)
-    → IsFinished r lost done → AreContents holds given.input (files_of job) files rest
-    → HasTold before after (λ told found. (left : Option BookView) × IsAnswerTo holds job files (given_by rest given.ports given.clients)
-    (response_of told found left opens ends) × AreKeptBut holds received job left receipts lost) (IsUnanswered given.ports opens ends)
+    → IsFinished r lost done → AreSeenApart named.leads (file_uses job) → AreContents named.holds given.input (files_of job) files rest
+    → HasTold before after (λ told found. (left : Option BookView) × IsAnswerTo named.holds job files (given_by rest given.ports given.clients)
+    (response_of told found left opens ends) × AreKeptBut named.holds received job left receipts lost) (IsUnanswered given.ports opens ends)
     (λ told. IsToldCut job files rest given.ports opens told × (ends ≡ [])) r
     → HasTold before after (λ told done. (left : Option BookView)
-    × IsJobAnswer holds given job (record { told = told; end = done.answer; left = left; ports = opens; ends = ends }) × AreKeptBut holds received job left
-    receipts done.lost) (IsUnanswered given.ports opens ends) (IsJobCut holds given job opens ends) done
-finish (Ok found) (Ok done) before after holds received job files rest given opens ends receipts lost is read t =
+    × IsJobAnswer named.holds given job (record { told = told; end = done.answer; left = left; ports = opens; ends = ends })
+    × AreKeptBut named.holds received job left receipts done.lost) (IsUnanswered given.ports opens ends) (IsJobCut named given job opens ends) done
+finish (Ok found) (Ok done) before after named received job files rest given opens ends receipts lost is apart read t =
     let left = t.2.0 in
-    let answer = subst (λ (p : Printed). IsAnswerTo holds job files (given_by rest given.ports given.clients)
+    let answer = subst (λ (p : Printed). IsAnswerTo named.holds job files (given_by rest given.ports given.clients)
     (record { told = t.0; end = p; left = left; ports = opens; ends = ends })) (sym is.0) t.2.1 in
-    (t.0, t.1, (left, (files, rest, read, answer), subst (AreKeptBut holds received job left receipts) (sym is.1) t.2.2), tt)
-finish (Ok found) (Err e) before after holds received job files rest given opens ends receipts lost is read t = absurd is
-finish (Err e) (Ok done) before after holds received job files rest given opens ends receipts lost is read t = absurd is
-finish (Err m) (Err told) before after holds received job files rest given opens ends receipts lost is read t =
+    (t.0, t.1, (left, (files, rest, read, answer), subst (AreKeptBut named.holds received job left receipts) (sym is.1) t.2.2), tt)
+finish (Ok found) (Err e) before after named received job files rest given opens ends receipts lost is apart read t = absurd is
+finish (Err e) (Ok done) before after named received job files rest given opens ends receipts lost is apart read t = absurd is
+finish (Err m) (Err told) before after named received job files rest given opens ends receipts lost is apart read t =
     let behind = IsUnanswered given.ports opens ends in
-    let cut = IsJobCut holds given job opens ends in (
+    let cut = IsJobCut named given job opens ends in (
       t.0,
       t.1,
       tt,
       subst (IsJobFailure behind cut t.0) (sym is) (failed_so m behind (λ told. IsToldCut job files rest given.ports opens told × (ends ≡ [])) behind cut t.0
-          (λ so. so) (λ so. (files, rest, read, so.0, so.1)) t.3),
+          (λ so. so) (λ so. (apart, files, rest, read, so.0, so.1)) t.3),
     )
 
 -- what is so where it went well

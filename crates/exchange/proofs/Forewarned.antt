@@ -1,13 +1,13 @@
 -- A line on standard error before those of settings is told once.
-use Rattle.std.proofs.Common.{◌≡◌, ◌∙◌, ◌++◌, ◌∷◌, [], ℕ, List, Option, None, Some, String, Global, IfSome, false, ap, append_assoc, inl, inr, refl, sym}
+use Rattle.std.proofs.Common.{◌<◌, ◌≡◌, ◌∙◌, ◌++◌, ◌∷◌, [], ℕ, List, Option, None, Some, String, Global, IfSome, false, ap, append_assoc, inl, inr, refl, sym}
 use Rattle.std.specs.Prelude.{string_bytes}
-use Rattle.std.specs.Fmt.{decimal}
 use Rattle.batch.specs.Text.{number}
 use Rattle.command_words.specs.declared.jobs.Request.{Request}
 use Rattle.drive_answers.proofs.ToldBeside.{TellsBeside}
 use Rattle.plan_answers.specs.Refusals.{Printed}
 use Rattle.named_files.specs.Notes.{IsWholeLine}
-use Rattle.exchange.specs.Notes.{IsBeside, IsTooWide, IsWarning}
+use Rattle.exchange.specs.Notes.{HasHeight, IsBeside, IsTooHigh, IsWarning}
+use Rattle.exchange.specs.declared.warnings.TheConstants.{MAX_DRAWN}
 use Rattle.exchange.specs.Warnings.{HasToldWarned, IsWarnedOnce, MayHaveWarned}
 use Rattle.exchange.specs.declared.warned.WarningObserver.{WarningObserver}
 
@@ -57,11 +57,20 @@ pub warning_by : (cause : Type 0) (request : Request) (line : Option (String Glo
 warning_by cause request None heard whole is = tt
 warning_by cause request (Some line) heard whole is = (heard, is, whole)
 
-pub wide_by : (drawing : Printed → Type 0) (drawn : Printed) (line : Option (String Global)) → drawing drawn → IfSome line (λ l. IsTooWide drawn.text)
-    → IfSome line (λ l. (shown : Printed) × drawing shown × IsTooWide shown.text)
-wide_by drawing drawn None is wide = tt
-wide_by drawing drawn (Some line) is wide = (drawn, is, wide)
+pub high_by : (drawing : Printed → Type 0) (drawn : Printed) (line : Option (String Global)) → drawing drawn → IfSome line (λ l. IsTooHigh drawn.text)
+    → IfSome line (λ l. (shown : Printed) × drawing shown × IsTooHigh shown.text)
+high_by drawing drawn None is high = tt
+high_by drawing drawn (Some line) is high = (drawn, is, high)
 
-pub width_by : (front text size after : List ℕ) (width : ℕ) → text ≡ front ++ size → size ≡ number width 39 ++ after → (rest : List ℕ)
-    × (text ≡ front ++ (decimal width ++ 39 ∷ rest))
-width_by front text size after width parts read = (after, parts ∙ ap (λ (l : List ℕ). front ++ l) (read ∙ append_assoc (decimal width) (39 ∷ []) after))
+pub told_high : (line : Option (String Global)) (text : List ℕ) (height : ℕ) → HasHeight text height → MAX_DRAWN < height → IfSome line (λ l. IsTooHigh text)
+told_high None text height has more = tt
+told_high (Some line) text height has more = (height, has, more)
+
+pub height_by : (front middle text size after more rest : List ℕ) (width height : ℕ) → text ≡ front ++ size → size ≡ number width 39 ++ after
+    → after ≡ middle ++ more → more ≡ number height 39 ++ rest
+    → (wide : ℕ) × (end : List ℕ) × (text ≡ front ++ (number wide 39 ++ (middle ++ (number height 39 ++ end))))
+height_by front middle text size after more rest width height one two three four = (
+  width,
+  rest,
+  one ∙ ap (λ (l : List ℕ). front ++ l) (two ∙ ap (λ (l : List ℕ). number width 39 ++ l) (three ∙ ap (λ (l : List ℕ). middle ++ l) four)),
+)

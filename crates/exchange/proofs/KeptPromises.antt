@@ -1,8 +1,9 @@
 -- The program keeps its promises.
-use Rattle.std.proofs.Common.{◌≡◌, ◌≢◌, ◌∙◌, ◌++◌, ℕ, Bool, true, false, not, List, [], ◌∷◌, map, Option, Some, None, inl, inr, ◌⊎◌, refl, sym, ap, subst, arith}
+use Rattle.std.proofs.Common.{◌≡◌, ◌≢◌, ◌∙◌, ◌++◌, ℕ, Bool, true, false, not, List, [], ◌∷◌, map, Option, Some, None, inl, inr, ◌⊎◌, refl, sym, ap, subst, arith, Ok, Err}
 use Rattle.std.specs.Prelude.{IfSome, option_map, option_to_list, ⊤}
 use Rattle.std.specs.Io.KnownBytes.{Appends}
 use Rattle.std.specs.List.{AllByRecursion}
+use Rattle.std.proofs.lemmas.Bool.{false≢true}
 use Rattle.std.proofs.lemmas.List.Elements.{recursion_from_All}
 use Rattle.clap.specs.Words.{Text}
 use Rattle.command_words.specs.Jobs.{AskFor, Files, MayHaveName, file, file_uses, files_beside, files_of, files_read, input_name, kept_files, recorded_in}
@@ -16,16 +17,19 @@ use Rattle.command_words.specs.declared.jobs.SessionJob.TheVariants.{Host, Serve
 use Rattle.command_words.specs.declared.jobs.RecordFile.{RecordFile}
 use Rattle.command_words.specs.declared.jobs.SharedRack.{SharedRack}
 use Rattle.command_words.specs.declared.uses.Access.TheVariants.{Read}
-use Rattle.command_words.proofs.OneRequest.{one_request}
+use Rattle.command_words.proofs.OneRequest.{no_fault, one_request}
+use Rattle.command_words.specs.declared.jobs.Request.{Request}
+use Rattle.command_words.specs.declared.jobs.ArgumentsFault.TheVariants.{Clap, NoMemory}
+use Rattle.batch_book.specs.History.{BookView}
 use Rattle.drive_answers.specs.Answers.{IsDriveAnswer}
 use Rattle.drive_answers.specs.Ways.{Ways}
-use Rattle.exchange.proofs.AskedJobs.{Answers, JobEnd, EndsSo, JobsCome, KeepsSo, SessionsCome, all_written, asks_nothing, cut_ends, ended_run, ends_well, jobs_come, keeps_apart, sessions_come}
-use Rattle.exchange.proofs.AskedJobs.{text_ends, the_run}
+use Rattle.exchange.proofs.AskedJobs.{Answers, JobEnd, EndsSo, JobsCome, KeepsSo, SessionsCome, all_written, asks_nothing, cut_ends, ended_run, ends_well, jobs_come, sessions_come}
+use Rattle.exchange.proofs.AskedJobs.{end_of, text_ends, the_run}
 use Rattle.exchange.proofs.EndStatuses.{IsEither, gave_up, given_up, never_done}
 use Rattle.exchange.proofs.HeldFiles.{alone, earlier, held_files, pass}
-use Rattle.exchange.proofs.PromisedCalls.{Had, behind, before, clients_come, kept_named, none_begun, scripts_come, talk_comes}
+use Rattle.exchange.proofs.PromisedCalls.{Had, behind, before, clients_come, kept_named, live_unbegun, none_begun, scripts_come, scripts_unbegun, talk_comes}
 use Rattle.exchange.proofs.PromisedDrives.{DroveOr, cut_so, drove_so}
-use Rattle.exchange.proofs.PromisedOthers.{cut_nothing, cut_others, keeps_nothing, keeps_others}
+use Rattle.exchange.proofs.PromisedOthers.{all_left, cut_nothing, cut_others, keeps_nothing, keeps_others}
 use Rattle.exchange.proofs.PromisedPictures.{drawn_so, priced_so}
 use Rattle.exchange.proofs.PromisedPlans.{checked, directed, planned}
 use Rattle.exchange.proofs.PromisedRefusals.{wrong_of}
@@ -35,12 +39,14 @@ use Rattle.exchange.proofs.PromisedRuns.{applied, ran_so}
 use Rattle.exchange.proofs.PromisedSwitches.{ordered, switched_so}
 use Rattle.exchange.specs.Drives.{names_in}
 use Rattle.exchange.specs.Ends.{IsCutFor, leaving}
-use Rattle.exchange.specs.Promises.{AsksFor, Comes, HasGivenUp, IsDone, KeepsJobs, KeepsPromises, LeavesOthers, Run, World, clients_of, saved_by, world_of}
-use Rattle.exchange.specs.Responses.{Given, IsTextAnswer, Named, Response, source_in, text_in}
+use Rattle.exchange.specs.Keeping.{AreKeptBut}
+use Rattle.exchange.specs.Promises.{AsksFor, Comes, HasGivenUp, IsAsItWas, IsDone, IsEmpty, IsUndone, KeepsJobs, KeepsPromises, LeavesAll, LeavesOthers, Run, World, clients_of, saved_by, world_of}
+use Rattle.exchange.specs.Responses.{Given, IsResponseTo, IsTextAnswer, Named, Response, source_in, text_in}
 use Rattle.exchange.specs.declared.limits.TheConstants.{MISUSED, UNWRITTEN}
 use Rattle.named_files.specs.Clients.{clients_by, ends_of}
 use Rattle.named_files.specs.Contents.{AreContents, Holding}
-use Rattle.named_files.specs.Notes.{IsToldInPart}
+use Rattle.named_files.specs.DistinctFiles.{AreSeenApart, Leading}
+use Rattle.named_files.specs.Notes.{GivesUp, IsToldInPart}
 use Rattle.named_files.specs.Outputs.{no_write_failures, none_opened}
 use Rattle.named_files.specs.Streams.{Closed}
 use Rattle.named_files.specs.declared.write_failures.WriteFailures.{WriteFailures}
@@ -81,6 +87,76 @@ known_came : (known : Option (List ℕ)) (came : List ℕ) → IfSome known (λ 
 known_came None came is = tt
 known_came (Some text) came is = sym is
 
+-- ---- files apart
+
+abbrev pub IsApart : Leading → World → Job → Type 0
+IsApart leads w job = AreSeenApart leads (file_uses job) ⊎ ((HasGivenUp w.run ⊎ (w.run.status ≡ UNWRITTEN)) × IsUndone w job)
+
+-- where nothing is left, nothing is of a job
+all_undone : (w : World) (job : Job) → LeavesAll w → IsUndone w job
+all_undone w (Texts job) all = all
+all_undone w (OverPorts job) all = all
+all_undone w (Sessions rack (Serve scripts workers)) all =
+    (subst (IsEmpty (recorded_in rack)) (sym all.1) tt, subst (IsEmpty rack.image_out) (sym all.2) tt)
+all_undone w (Sessions rack (Host names workers)) all =
+    (subst (IsAsItWas w.run rack.record_out names) (sym all.1) tt, subst (IsEmpty rack.image_out) (sym all.2) tt, all.3)
+all_undone w (Sessions rack Talk) all =
+    (subst (IsAsItWas w.run rack.record_out []) (sym all.1) tt, subst (IsEmpty rack.image_out) (sym all.2) tt, all.3)
+
+module _ (named : Named) (given : Given) (words : List Text) (prints : List ℕ → Type 0) (status : ℕ) where
+  abbrev The0 : Run
+  The0 = the_run named given words prints status
+
+  by_name : (rack : SharedRack) (job : SessionJob) → AsksFor The0 (Sessions rack job) → (out : RecordFile) (text : List ℕ) → rack.record_out ≡ Some out
+      → named.holds out.name text → The0.holds out.name text
+  by_name rack job asks out text is holds = (λ input. absurd (record_named rack job words asks.0 asks.1 out is input), λ other. holds)
+
+  module _ {C : Type 0} (received : C → Closed) (receipts : Receipts C) (comes : Text → Option (List ℕ)) (had : Text → List ℕ)
+      (endings : List (Ending (List ℕ))) (after : Ways) where
+    abbrev W0 : World
+    W0 = world_of The0 given.ports after (saved_by received receipts) (clients_of comes had endings)
+
+    -- where a job has no answer nothing is left of it
+    undone : (job : Job) → AsksFor The0 job → LeavesOthers W0 job → (lost : WriteFailures) → AreKeptBut named.holds received job None receipts lost
+        → after ≡ given.ports → ends_of endings ≡ [] → IsUndone W0 job
+    undone (Texts job) asks others lost kept ports ends = others
+    undone (OverPorts C004) asks others lost kept ports ends = others
+    undone (OverPorts (Drive batch port port_b from wiring first goes_on workers)) asks others lost kept ports ends = (ports, others.0, others.1, others.2)
+    undone (Sessions rack (Serve scripts workers)) asks others lost kept ports ends =
+        scripts_unbegun received receipts lost named given The0 false after comes had endings (λ all. absurd (false≢true all)) rack scripts workers kept
+    undone (Sessions rack (Host names workers)) asks others lost kept ports ends =
+        live_unbegun received receipts lost named given The0 false after comes had endings (λ all. absurd (false≢true all)) rack
+        (by_name rack (Host names workers) asks) names kept ends
+    undone (Sessions rack Talk) asks others lost kept ports ends =
+        live_unbegun received receipts lost named given The0 false after comes had endings (λ all. absurd (false≢true all)) rack (by_name rack Talk asks) []
+        kept ends
+
+    apart_by : (job : Job) → AsksFor The0 job → LeavesOthers W0 job → (response : Response) → IsResponseTo named given job response → response.ports ≡ after
+        → (lost : WriteFailures) → KeepsSo named.holds received receipts (ends_of endings) lost job response
+        → (GivesUp response.end → response.told ≡ [] → HasGivenUp The0 ⊎ (status ≡ UNWRITTEN)) → IsApart named.leads W0 job
+    apart_by job asks others response (inl comes) ports lost kept gives = inl comes.0
+    apart_by job asks others response (inr none) ports lost kept gives = inr (
+      gives none.4 none.0,
+      undone job asks others lost (subst (λ (l : Option BookView). AreKeptBut named.holds received job l receipts lost) none.3 kept.0)
+          (sym ports ∙ none.1) (sym kept.1 ∙ none.2),
+    )
+
+    -- the same where not all could be written
+    apart_in_part : (out_before out_after : Option (List ℕ)) → IsCutFor named (leaving named.holds received receipts given.ports after (ends_of endings)) words given
+        out_before out_after → status ≡ UNWRITTEN → (job : Job) → AsksFor The0 job → LeavesOthers W0 job → IsApart named.leads W0 job
+    apart_in_part out_before out_after (Ok other, has, wrong, inl (response, answers, keeping, part)) unwritten job asks others =
+        let same = ap (λ (r : Request). r.job) (one_request words other (record { job = job; is_quiet = asks.0 }) has asks.1) in
+        apart_by job asks others response (subst (λ (j : Job). IsResponseTo named given j response) same answers) keeping.1 keeping.0.0
+        (subst (λ (j : Job). KeepsSo named.holds received receipts (ends_of endings) keeping.0.0 j response) same (keeping.0.1, keeping.2))
+        (λ gives told. inr unwritten)
+    apart_in_part out_before out_after (Ok other, has, wrong, inr (told, cut, keeping, part)) unwritten job asks others =
+        inl (subst (λ (r : Request). AreSeenApart named.leads (file_uses r.job)) (one_request words other (record { job = job; is_quiet = asks.0 }) has asks.1)
+        cut.0)
+    apart_in_part out_before out_after (Err NoMemory, has, wrong, none) unwritten job asks others =
+        inr (inr unwritten, all_undone W0 job (all_left received receipts comes had endings given.ports after The0 true none.0))
+    apart_in_part out_before out_after (Err (Clap error), has, wrong, none) unwritten job asks others =
+        absurd (no_fault words (record { job = job; is_quiet = asks.0 }) error asks.1 wrong)
+
 -- ---- each job
 
 text_done : (w : World) (job : TextJob) (texts : Files (List ℕ)) (printed : Printed) → printed.status ≡ DONE → IsTextAnswer job texts printed
@@ -106,10 +182,6 @@ module _ {C : Type 0} (received : C → Closed) (receipts : Receipts C) (comes :
   abbrev W : World
   W = record { run = The; whole = whole; before = given.ports; after = after; kept = saved_by received receipts; clients = clients_of comes had endings }
 
-  by_name : (rack : SharedRack) (job : SessionJob) → AsksFor The (Sessions rack job) → (out : RecordFile) (text : List ℕ) → rack.record_out ≡ Some out
-      → named.holds out.name text → The.holds out.name text
-  by_name rack job asks out text is holds = (λ input. absurd (record_named rack job words asks.0 asks.1 out is input), λ other. holds)
-
   had_so : SessionsCome named given received receipts (ends_of endings) may The → (rack : SharedRack) (job : SessionJob) → AsksFor The (Sessions rack job)
       → Had W rack job
   had_so come rack (Serve scripts workers) asks = elim (come rack (Serve scripts workers) asks) [
@@ -126,8 +198,8 @@ module _ {C : Type 0} (received : C → Closed) (receipts : Receipts C) (comes :
     )
   ]
   had_so come rack (Host names workers) asks = elim (come rack (Host names workers) asks) [
-    | inl c ↦ clients_come received receipts c.0 named given The whole after comes had endings (none_lost c.0 c.1) rack (by_name rack (Host names workers) asks)
-        names workers (ap (λ clients. clients names) known)
+    | inl c ↦ clients_come received receipts c.0 named given The whole after comes had endings (none_lost c.0 c.1) rack
+        (by_name named given words prints status rack (Host names workers) asks) names workers (ap (λ clients. clients names) known)
         (λ files rest reads. held_files words (record { job = Sessions rack (Host names workers); is_quiet = asks.0 }) named.holds given.input files rest asks.1
         reads) c.2
     | inr none ↦ inr (
@@ -140,7 +212,8 @@ module _ {C : Type 0} (received : C → Closed) (receipts : Receipts C) (comes :
     )
   ]
   had_so come rack Talk asks = elim (come rack Talk asks) [
-    | inl c ↦ talk_comes received receipts c.0 named given The whole after comes had endings (none_lost c.0 c.1) rack (by_name rack Talk asks)
+    | inl c ↦ talk_comes received receipts c.0 named given The whole after comes had endings (none_lost c.0 c.1) rack
+        (by_name named given words prints status rack Talk asks)
         (λ rest files reads came is. (
           λ same. known_came given.input came
               (subst (λ (o : Option (List ℕ)). IfSome o (λ text. text ≡ came)) (talk_reads named.holds given.input rack words asks.0 asks.1 files rest reads) is),
@@ -187,11 +260,11 @@ module _ {C : Type 0} (received : C → Closed) (receipts : Receipts C) (comes :
       | inr other ↦ elim other [
         | inl t ↦
             let is = t.cut in
-            let c = cut_so W from first (names_in port port_b) is.0 goes_on is.1 is.3.0 t.told t.status is.3.1 in
+            let c = cut_so W from first (names_in port port_b) is.1 goes_on is.2 is.4.0 t.told t.status is.4.1 in
             inl (
-              is.0,
+              is.1,
               t.told ++ c.0,
-              held_files words (record { job = Drives; is_quiet = asks.0 }) named.holds given.input is.0 is.1 asks.1 is.2,
+              held_files words (record { job = Drives; is_quiet = asks.0 }) named.holds given.input is.1 is.2 asks.1 is.3,
               t.prints c.0,
               inl c.1,
             )
@@ -280,7 +353,19 @@ keeps_promises e after received receipts comes had endings known ports so none i
           e.code true (λ lost. lost ≡ no_write_failures) (λ lost same all. same)
           (text_ends e is) (jobs_come e after ports (λ n. (none n).1) is) come (λ misused. asks_nothing e is (record { job = job; is_quiet = asks.0 }) asks.1
           misused) (keeps_others received receipts comes had endings after e ports so none is) job asks;
-      apart = keeps_apart e is;
+      apart = λ job asks.
+          let others = keeps_others received receipts comes had endings after e ports so none is job asks in
+          elim (end_of e (record { job = job; is_quiet = asks.0 }) asks.1 is) [
+            | inl done ↦ apart_by e.named e.given e.words (Appends e.streams.out_before e.streams.out_after) e.code received receipts comes
+                had endings after job asks others done.0 done.1 (ports job done.0 done.2) no_write_failures (so job done.0 done.2)
+                (λ gives told. inl (gave_up (ended_run e) done.0.end gives
+                (subst (λ (x : List ℕ). Appends e.streams.out_before e.streams.out_after (x ++ done.0.end.text)) told done.3.text)))
+            | inr gives_up ↦ inr (
+              inl (inl gives_up.1.text),
+              all_undone (W0 e.named e.given e.words (Appends e.streams.out_before e.streams.out_after) e.code received receipts comes had endings after) job
+                  (all_left received receipts comes had endings e.given.ports after (ended_run e) true (none gives_up.0)),
+            )
+          ];
       nothing = keeps_nothing received receipts comes had endings after e ports so none is;
       fronts = λ unwritten. absurd (all_written e is unwritten);
     }
@@ -305,7 +390,8 @@ keeps_in_part words named after given out_before out_after code received receipt
         used = λ misused. omega (arith, misused, unwritten);
         others = cut_others received receipts comes had endings after words named given out_before out_after run true is job asks.0 asks.1;
       };
-      apart = λ job asks. inr (inr unwritten);
+      apart = λ job asks. apart_in_part named given words (Appends out_before out_after) code received receipts comes had endings after out_before out_after is
+          unwritten job asks (cut_others received receipts comes had endings after words named given out_before out_after run true is job asks.0 asks.1);
       nothing = cut_nothing received receipts comes had endings after words named given out_before out_after run true is refl unwritten;
       fronts = λ same. (
         cut.status,

@@ -32,7 +32,7 @@ use Rattle.exchange.specs.Promises.{IsSessionOf, IsUndone, Run, Session, World, 
 use Rattle.exchange.specs.Responses.{Given, IsResponseTo, Named, Response}
 use Rattle.recorded_sessions.specs.Answers.{IsLiveAnswer, IsWrongStart, hosting, loses, talking}
 use Rattle.recorded_sessions.specs.Keeping.{AreLiveKept, AreScriptsKept, AreWritten, HasAllTold}
-use Rattle.recorded_sessions.specs.Records.{BeginsFor, IsAsBegun, IsWrongFor}
+use Rattle.recorded_sessions.specs.Records.{BeginsFor, BeginsWith, IsAsBegun, IsWrongFor}
 use Rattle.module_memory.specs.Images.{image_of}
 use Rattle.module_memory.specs.Store.{Store}
 use Rattle.named_files.specs.Clients.{clients_by, ends_of}
@@ -178,15 +178,6 @@ pub kept_named : (recorded image : Option Text) (name : Text) → recorded ≡ S
     → AllByRecursion MayHaveName (map (file Write) (option_to_list recorded ++ option_to_list image)) → name ≢ input_name
 kept_named None image name is all = absurd (cc)
 kept_named (Some recorded) image name is all = λ same. all.0 tt ((let e : recorded ≡ name = cc in e) ∙ same)
-
--- a book with which sessions begin
-begun_so : (holds : Holding) (record_out : Option RecordFile) (opening : Store) (names : List Text) (was : BookView) → BeginsFor holds record_out opening names
-    was → (was.opening ≡ opening) × (was.machine.store.shape ≡ opening.shape)
-begun_so holds None opening names was is = (ap (λ (a : BookView). a.opening) is, ap (λ (a : BookView). a.machine.store.shape) is)
-begun_so holds (Some out) opening names was (held, holds_so, inl new) =
-    (ap (λ (a : BookView). a.opening) new.2, ap (λ (a : BookView). a.machine.store.shape) new.2)
-begun_so holds (Some out) opening names was (held, holds_so, inr (resumes, r)) =
-    (r.is_opening, shape_stays (opened opening) was.history was.machine r.remade.replayed.replay)
 
 module _ (comes : Text → Option (List ℕ)) (had : Text → List ℕ) (names : List Text) (endings : List (Ending (List ℕ))) (b : Beginning) (calls : Calls)
     (shape : b.shape ≡ calls.opening.shape) (recorded : b.loses ≡ calls.recorded) where
@@ -336,7 +327,7 @@ module _ {C : Type 0} (received : C → Closed) (receipts : Receipts C) (lost : 
 
   -- ---- `serve`
 
-  scripts_unbegun : (scripts : List Text) (workers : ℕ) → AreScriptsKept received (recorded_in rack) rack.image_out None receipts lost
+  pub scripts_unbegun : (scripts : List Text) (workers : ℕ) → AreScriptsKept received (recorded_in rack) rack.image_out None receipts lost
       → IsUndone The (Sessions rack (Serve scripts workers))
   scripts_unbegun scripts workers gone = (is_empty received (recorded_in rack) receipts.recorded gone.0, is_empty received rack.image_out receipts.image gone.1)
 
@@ -411,7 +402,7 @@ module _ {C : Type 0} (received : C → Closed) (receipts : Receipts C) (lost : 
           for None by is = is
           for (Some out) by is = (is.0, is.1, by out is.1 refl is.2, is.3)
 
-      live_unbegun : AreLiveKept named.holds received rack names None receipts lost → ends_of endings ≡ [] → IsAsItWas run rack.record_out names
+      pub live_unbegun : AreLiveKept named.holds received rack names None receipts lost → ends_of endings ≡ [] → IsAsItWas run rack.record_out names
           (option_map received receipts.recorded) × IsEmpty rack.image_out (option_map received receipts.image) × (endings ≡ [])
       live_unbegun gone ends = (
         as_it_was named.holds received rack.record_out names receipts.recorded run by_name gone.0,
@@ -419,32 +410,28 @@ module _ {C : Type 0} (received : C → Closed) (receipts : Receipts C) (lost : 
         none_ended endings ends,
       )
 
-      begins_for : (record_out : Option RecordFile) (opening : Store) (was : BookView)
+      begins_for : (record_out : Option RecordFile) (opening : Store) (es : List Entry)
           → ((out : RecordFile) (text : List ℕ) → record_out ≡ Some out → named.holds out.name text → run.holds out.name text)
-          → BeginsFor named.holds record_out opening names was → BeginsFor run.holds record_out opening names was
-      begins_for None opening was by is = is
-      begins_for (Some out) opening was by (held, holds_so, begins) = (held, by out held refl holds_so, begins)
+          → BeginsFor named.holds record_out opening names es → BeginsFor run.holds record_out opening names es
+      begins_for None opening es by is = is
+      begins_for (Some out) opening es by (held, holds_so, begins) = (held, by out held refl holds_so, begins)
 
       -- how their calls go on from those of the record
-      module _ (opening : Store) (was : BookView) (begins : BeginsFor named.holds rack.record_out opening names was) (parts : List Part) (book : BookView)
+      module _ (opening : Store) (was : BookView) (begins : BeginsWith named.holds rack.record_out opening names was) (parts : List Part) (book : BookView)
           (one : HaveOneHistory (loses rack) was.opening was.history parts book) where
         abbrev Theirs : Calls
         Theirs = calls_of (loses rack) was.opening was.history one.made one.standing book
 
         rack_of : (bytes : Option (List ℕ)) → IsRackOf rack.shape bytes opening → IsRackOf rack.shape bytes was.opening
-        rack_of bytes of = subst (λ (o : Store). IsRackOf rack.shape bytes o) (sym (begun_so named.holds rack.record_out opening names was begins).0) of
+        rack_of bytes of = subst (λ (o : Store). IsRackOf rack.shape bytes o) (sym begins.1.0) of
 
         same_shape : was.machine.store.shape ≡ was.opening.shape
-        same_shape = let begun = begun_so named.holds rack.record_out opening names was begins in begun.1 ∙ ap (λ (o : Store). o.shape) (sym begun.0)
+        same_shape = shape_stays (opened was.opening) was.history was.machine begins.1.1
 
         goes_on : GoesOnFrom run rack.record_out names Theirs
         goes_on = (
-          (
-            was,
-            subst (λ (o : Store). BeginsFor run.holds rack.record_out o names was) (sym (begun_so named.holds rack.record_out opening names was begins).0)
-                (begins_for rack.record_out opening was by_name begins),
-            refl,
-          ),
+          subst (λ (o : Store). BeginsFor run.holds rack.record_out o names was.history) (sym begins.1.0)
+              (begins_for rack.record_out opening was.history by_name begins.0),
           λ none. let lost_none_is : loses rack ≡ false = ap (λ (o : Option RecordFile). is_some o)
               none in (lost_none_is, all_stand (loses rack) was.opening was.history parts book one lost_none_is),
         )

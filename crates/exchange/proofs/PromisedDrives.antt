@@ -27,7 +27,7 @@ use Rattle.crossbar.specs.declared.chip.Wiring.TheVariants.{Back, Board, Both, F
 use Rattle.crossbar.specs.declared.pair.Pair.{Pair}
 use Rattle.crossbar.specs.declared.traffic.Passing.{Passing}
 use Rattle.drive_answers.specs.Answers as drives
-use Rattle.drive_answers.specs.Answers.{HasFailed, IsDriveAnswer, IsDrivenOver, IsFirstDriveWrong, IsTried, is_wide_over, rack_for, switches_in}
+use Rattle.drive_answers.specs.Answers.{HasFailed, IsDriveAnswer, IsDrivenOver, IsFirstDriveWrong, IsStart, IsTried, is_wide_over, rack_for, switches_in}
 use Rattle.drive_answers.specs.declared.fault.DriveFault.TheVariants as drive_fault
 use Rattle.drive_answers.specs.Endings.{completed_line, fault_words, left_line, stopped_line}
 use Rattle.drive_answers.specs.Ways.{IsUnopened, Names, how_many, used}
@@ -389,8 +389,8 @@ module _ (w : World) (from : ScheduleSource Text) (first : ℕ) (names : Names) 
   -- all settings stood
   completed : (all : ℕ) (printed : Printed) → w.run.status ≡ DONE → how_many names ≡ switches_in (rack_for filled (is_wide_over names transfers))
       → IsDrivenOver (TellsLine waits) (rack_for filled (is_wide_over names transfers)) transfers settings first (Completed all) names w.before w.after start
-      final → printed.text ≡ completed_line all → Drove (final.told ++ printed.text)
-  completed all printed status many over line =
+      final → printed.text ≡ completed_line all → IsStart first settings → Drove (final.told ++ printed.text)
+  completed all printed status many over line starts =
       let went = over.went in
       let all_of : all ≡ length settings = went.0 in
       let sum : first + went.1.0 ≡ length settings = went.1.1 ∙ all_of in
@@ -407,6 +407,7 @@ module _ (w : World) (from : ScheduleSource Text) (first : ℕ) (names : Names) 
         line = completed_line (length settings);
         said = r.said;
         wired = r.wired;
+        starts = starts;
         opened = over.ways ∙ ap (λ (c : Option (List Passing)). used names c over.failed w.before) (t.known ∙ ap Some (sym (append-nil t.passed)))
             ∙ ap (λ (n : ℕ). used names (Some (t.passed ++ [])) n w.before) over.cause;
         stood = t.stood;
@@ -443,6 +444,7 @@ module _ (w : World) (from : ScheduleSource Text) (first : ℕ) (names : Names) 
         line = line;
         said = r.said;
         wired = r.wired;
+        starts = inr (omega (arith, went.at, went.within));
         opened = ways ∙ ap (λ (c : Option (List Passing)). used names c failed w.before) (grown.known ∙ ap Some (sym (append-nil grown.passed)));
         stood = stood_more filled (is_wide_over names transfers) transfers settings first went.count t.passed grown.more grown.passed grown.parts t.stood
             (turned_all filled (is_wide_over names transfers) transfers settings r.given (first + went.count) (pairs_at transfers settings (first + went.count))
@@ -472,6 +474,7 @@ module _ (w : World) (from : ScheduleSource Text) (first : ℕ) (names : Names) 
         line = stopped_line k (fault_words fault);
         said = r.said;
         wired = r.wired;
+        starts = inr (omega (arith, went.at, went.within));
         opened = over.ways ∙ ap (λ (c : Option (List Passing)). used names c over.failed w.before) f.1;
         stood = t.stood;
         all = λ done. absurd (done_is w.run.status done status);
@@ -489,20 +492,13 @@ module _ (w : World) (from : ScheduleSource Text) (first : ℕ) (names : Names) 
       subst Drove (ap₂ (λ (x y : List ℕ). x ++ y) (sym told) (sym text)) (last_stood halt k line carried failed status went ways is)
 
 -- what is first wrong with the texts
-not_less : (a b : ℕ) → (a < b → ⊥) → b ≤ a
-not_less a b none = omega (arith, none)
-
-not_begun : (first n : ℕ) → ((first ≡ 0) ⊎ (first < n) → ⊥) → (0 < first) × (n ≤ first)
-not_begun zero n other = absurd (other (inl refl))
-not_begun (suc m) n other = (omega arith, not_less (suc m) n (λ less. other (inr less)))
-
 wrong_on : (from : ScheduleSource (List ℕ)) (text : List ℕ) (wiring : Option (List ℕ)) (first : ℕ) (refusal : Refusal) → IsFirstDriveWrong from text wiring
     first refusal → IsFirstWrongOn from text wiring first refusal
 wrong_on from text wiring first refusal (drives.wiring_wrong fault wrong is) = wiring_wrong fault wrong is
 wrong_on from text wiring first refusal (drives.lacking board of lacks) = lacking board of lacks
 wrong_on from text wiring first refusal (drives.texts_wrong board of wrong has) = texts_wrong board of wrong has
 wrong_on from text wiring first refusal (drives.no_setting board batch settings of is ways other same) =
-    let begun = not_begun first (length settings) other in no_setting board batch settings of (scheduled from text batch settings is) ways begun.0 begun.1 same
+    no_setting board batch settings of (scheduled from text batch settings is) ways other same
 
 -- what a drive printed, or its refusal; then no port was opened
 abbrev pub DroveOr : World → Names → ScheduleSource Text → ℕ → Files (List ℕ) → List ℕ → Type 0
@@ -523,20 +519,21 @@ module _ (w : World) (from : ScheduleSource Text) (first : ℕ) (names : Names) 
         inr (((refusal, wrong, ap (λ (x : List ℕ). x ++ printed.text) told ∙ line.line), left), status ∙ line.status)
 
     tried_so : (filled : Option BoardWiring) (transfers : List Transfer) (settings : List (List ℕ)) → Read from names texts filled transfers settings
+        → IsStart first settings
         → IsTried (TellsLine (not goes_on)) (rack_for filled (is_wide_over names transfers)) transfers settings first names w.before w.after start final printed
         → DroveOr w names from first texts (final.told ++ printed.text)
-    tried_so filled transfers settings r (drives.driven (Completed all) many over ends) =
-        inl (completed w from first names texts (not goes_on) filled transfers settings start final r none all printed (status ∙ ends.1) many over ends.0)
-    tried_so filled transfers settings r (drives.driven (Stopped k fault) many over ends) =
+    tried_so filled transfers settings r starts (drives.driven (Completed all) many over ends) =
+        inl (completed w from first names texts (not goes_on) filled transfers settings start final r none all printed (status ∙ ends.1) many over ends.0 starts)
+    tried_so filled transfers settings r starts (drives.driven (Stopped k fault) many over ends) =
         inl (stopped_at w from first names texts (not goes_on) filled transfers settings start final r none k fault printed (status ∙ ends.1) over ends.0)
-    tried_so filled transfers settings r (drives.driven (Halted k Left) many over ends) =
+    tried_so filled transfers settings r starts (drives.driven (Halted k Left) many over ends) =
         inl (left_at w from first names texts (not goes_on) filled transfers settings start final r none Left k (left_line k) over.carried over.failed printed
         (status ∙ ends.1) (inl refl) over.went over.ways ends.0 (inl refl))
-    tried_so filled transfers settings r (drives.driven (Halted k Unheard) many over ends) =
+    tried_so filled transfers settings r starts (drives.driven (Halted k Unheard) many over ends) =
         inl (left_at w from first names texts (not goes_on) filled transfers settings start final r none Unheard k (stopped_line k (codes "input")) over.carried
         over.failed printed (status ∙ ends.1) (inr refl) over.went over.ways ends.0 (inr refl))
-    tried_so filled transfers settings r (drives.driven (Halted k Untold) many over ends) = absurd ends
-    tried_so filled transfers settings r (drives.unopened refusal why refuses same left) =
+    tried_so filled transfers settings r starts (drives.driven (Halted k Untold) many over ends) = absurd ends
+    tried_so filled transfers settings r starts (drives.unopened refusal why refuses same left) =
         refused_so refusal same refuses.1 left
         (inr (
           transfers,
@@ -551,7 +548,7 @@ module _ (w : World) (from : ScheduleSource Text) (first : ℕ) (names : Names) 
     pub drove_so : IsDriveAnswer (TellsLine (not goes_on)) (source_in from (text_in texts.schedule)) (text_in texts.list) texts.wiring first names w.before
         w.after start final printed → DroveOr w names from first texts (final.told ++ printed.text)
     drove_so (drives.tried board filled transfers settings of is ways fills begins tries) =
-        tried_so filled transfers settings (read_so from names texts board filled transfers settings of is ways fills) tries
+        tried_so filled transfers settings (read_so from names texts board filled transfers settings of is ways fills) begins tries
     drove_so (drives.wrong refusal wrong refuses same left) = refused_so refusal same refuses.1 left
         (inl (wrong_on _ (text_in texts.list) texts.wiring first refusal wrong))
 

@@ -53,7 +53,7 @@ module _ {C : Type 0} (received : C → Closed) (receipts : Receipts C) (comes :
       (none_gone receipts.recorded gone.0, none_gone receipts.image gone.1)
 
   -- nothing was opened
-  all_left : IsNoneLeft receipts was after (ends_of endings) → LeavesAll The
+  pub all_left : IsNoneLeft receipts was after (ends_of endings) → LeavesAll The
   all_left none = (
     none.1,
     ap (λ (r : Receipts C). option_map received r.recorded) none.0,
@@ -174,7 +174,7 @@ module _ {C : Type 0} (received : C → Closed) (receipts : Receipts C) (comes :
         response_left received receipts comes had endings given.ports after run whole named given request.job response kept.0.0 refl kept.1 (kept.0.1, kept.2)
         is
     part_left request (inr (told, is, kept, part)) =
-        cut_left received receipts comes had endings given.ports after run whole named.holds request.job is.0 is.1 told is.3 is.4 kept
+        cut_left received receipts comes had endings given.ports after run whole named.holds request.job is.1 is.2 told is.4 is.5 kept
 
     pub cut_others : (job : Job) (quiet : Bool) → AskFor words (record { job = job; is_quiet = quiet }) → LeavesOthers (World1 given.ports run whole) job
     cut_others job quiet asks = by cut

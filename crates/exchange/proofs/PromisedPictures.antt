@@ -52,7 +52,7 @@ title_so : (batch : List Transfer) (settings : ℕ) (verdict : Verdict) (shown :
     (title_part batch settings verdict shown)
 unfolding title_part
 title_so batch settings verdict shown =
-    let size = size_text (width_of shown.count) (height_of batch) in
+    let size = size_text (width_of shown.count) (height_of batch shown.count) in
     let heading = heading_text (length batch) settings verdict.fewest in
     let more = codes ", " ++ (busiest_words verdict.busiest ++ (standing_words verdict.standing ++ shown_words settings shown)) in
     subst (λ (note : List ℕ). IsPartOf (title_words batch settings verdict) (size ++ heading ++ codes ", " ++ note ++ codes "</title>\n"))
@@ -81,7 +81,7 @@ titled batch settings named verdict shown fits known = record {
       (λ (n : ℕ). IsPartOf (heading_text (length batch) (length settings) verdict.fewest ++ codes ", " ++ changes_words n verdict.partners verdict.least)
       (picture_of batch settings verdict shown))
       known.counted (picture_so (title_words batch (length settings) verdict) (opening_text batch (length settings) verdict shown)
-      (rows_text batch shown.count verdict.busiest) (headings_text shown.count) (columns_text batch settings shown) (closing_text batch)
+      (rows_text batch shown.count verdict.busiest) (headings_text batch shown.count) (columns_text batch settings shown) (closing_text batch shown.count)
       (opening_so batch (length settings) verdict shown));
   are_fewest = tells_fewest batch settings named verdict known;
   needed = λ other is. needed batch settings other named verdict fits known is;
@@ -90,14 +90,15 @@ titled batch settings named verdict shown fits known = record {
 columns_there : (batch : List Transfer) (settings : List (List ℕ)) (verdict : Verdict) (shown : ShownSettings) → IsPartOf (columns_text batch settings shown)
     (picture_of batch settings verdict shown)
 columns_there batch settings verdict shown =
-    let before = opening_text batch (length settings) verdict shown ++ rows_text batch shown.count verdict.busiest ++ headings_text shown.count in
-    (before, closing_text batch, append_assoc before (columns_text batch settings shown) (closing_text batch))
+    let before = opening_text batch (length settings) verdict shown ++ rows_text batch shown.count verdict.busiest ++ headings_text batch shown.count in
+    (before, closing_text batch shown.count, append_assoc before (columns_text batch settings shown) (closing_text batch shown.count))
 
 pub drawn_so : (text other : List ℕ) (chosen : Option Text) (least : ℕ) (printed : Printed) → printed.status ≡ DONE → IsDrawnWith widest text other chosen least
     printed → HasDrawn text other chosen printed.text
 drawn_so text other chosen least printed status (drawn d so_many done) =
     let reads = d.valid.read.texts.batch_read in
     let named = d.valid.read.certificate in
+    let fits : IsBatch d.transfers = record { few = reads.few; within = reads.within } in
     let picture = sym d.drawing in
     record {
       transfers = d.transfers;
@@ -108,9 +109,9 @@ drawn_so text other chosen least printed status (drawn d so_many done) =
       wanted = d.wanted;
       are_shown = d.are_shown;
       titled = subst (IsTitled d.transfers d.settings) picture
-          (titled d.transfers d.settings named d.verdict d.shown (record { few = reads.few; within = reads.within }) d.valid.known);
+          (titled d.transfers d.settings named d.verdict d.shown fits d.valid.known);
       columns = subst (IsPartOf (columns_text d.transfers d.settings d.shown)) picture (columns_there d.transfers d.settings d.verdict d.shown);
-      apart = overlapping d.transfers d.settings d.shown d.valid.read.valid;
+      apart = overlapping d.transfers d.settings d.shown fits d.valid.read.valid;
     }
 drawn_so text other chosen least printed status (undrawn refusal wrong line) = absurd (never_done printed.status line.status status)
 

@@ -75,13 +75,13 @@ module _ (named : Named) (given : Given) (ports : Ways) (words : List Text) (pri
         | inr other ↦ elim other [
           | inl t ↦
               let is = t.cut in
-              let by = is.3.0 in
+              let by = is.4.0 in
               inl (
-                is.0,
+                is.1,
                 t.told ++ by.0,
-                held_files words (record { job = OverPorts C004; is_quiet = asks.0 }) named.holds given.input is.0 is.1 asks.1 is.2,
+                held_files words (record { job = OverPorts C004; is_quiet = asks.0 }) named.holds given.input is.1 is.2 asks.1 is.3,
                 t.prints by.0,
-                replied is.1 (t.told ++ by.0) by.1 (none_read named.holds given.input is.0 is.1 is.2) (λ done. absurd (never_done status t.status done)) by.2,
+                replied is.2 (t.told ++ by.0) by.1 (none_read named.holds given.input is.1 is.2 is.3) (λ done. absurd (never_done status t.status done)) by.2,
               )
           | inr none ↦ inr (inl none.prints, none.status)
         ]

@@ -8,7 +8,7 @@ use Rattle.std.specs.List.{AllByRecursion, flat_map, list_any}
 use Rattle.std.specs.Io.KnownBytes.{Consumes, IsAtEnd}
 use Rattle.batch.specs.ShapeView.{ShapeView}
 use Rattle.batch_book.proofs.Fronts.{front, starts, starts_same, starts_then}
-use Rattle.batch_book.specs.History.{BookView, AreUnstopped, IsReplay, IsPrefix}
+use Rattle.batch_book.specs.History.{BookView, IsPrefix}
 use Rattle.batch_book.specs.Machine.{opened}
 use Rattle.batch_book.specs.Seats.{own}
 use Rattle.batch_book.specs.Values.{greatest}
@@ -24,6 +24,8 @@ use Rattle.client_session.specs.declared.fault.ServeFault.{ServeFault}
 use Rattle.client_session.specs.declared.fault.ServeFault.TheVariants.{Cut, LineTooLong, NoMemory, Read, Record, Turns, Write}
 use Rattle.exchange.specs.Promises.{Calls, EndsSo, HaveOneOrder, IsSessionOf, Session, all_calls, all_turns, told_text}
 use Rattle.module_memory.specs.Store.{Store}
+use Rattle.record_replay.proofs.Steps.{steps_seen}
+use Rattle.record_replay.specs.Steps.{AreSeenSteps}
 use Rattle.session_answers.specs.Frames.{Transcript, session_text, sessions_text}
 use Rattle.session_answers.specs.Histories.{HaveOneHistory, Part}
 use Rattle.session_answers.specs.Serving.{HasItsScript}
@@ -251,11 +253,11 @@ module _ (loses : Bool) (opening : Store) (earlier : List Entry) (parts : List P
     pub in_order : (ss : List Session) → fold (λ a (s : Session). a + length (own s.number one.made)) 0 ss ≡ fold (λ a (p : Part). a + length p.asked) 0 parts
         → AllByRecursion (λ (s : Session). AreReadings (greatest earlier) (greatest book.history) (all_turns s)) ss → HaveOneOrder theirs ss
     in_order ss same seen = record {
-      right = subst (λ (es : List Entry). IsReplay (opened opening) es book.machine) one.are one.replay;
+      right = subst (λ (es : List Entry). AreSeenSteps (opened opening) es book.machine) one.are
+          (steps_seen (opened opening) book.history book.machine one.unstopped one.replay);
       no_other = one.counted ∙ sym same;
       front = same_behind earlier one.standing one.made
           (subst (λ (x : List Entry). IsPrefix x (earlier ++ one.made)) one.stand (subst (λ (x : List Entry). IsPrefix book.durable x) one.are one.front));
-      unstopped = subst AreUnstopped one.are one.unstopped;
       seen = subst (λ (es : List Entry). AllByRecursion (λ (s : Session). AreReadings (greatest earlier) (greatest es) (all_turns s)) ss) one.are seen;
     }
 

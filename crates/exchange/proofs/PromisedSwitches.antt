@@ -1,5 +1,5 @@
 -- The promises of `switch` and `orders`.
-use Rattle.std.proofs.Common.{◌≡◌, ◌<◌, ℕ, zero, suc, Bool, true, false, List, [], length, Option, Some, None, refl, sym, subst, arith}
+use Rattle.std.proofs.Common.{◌≡◌, ◌<◌, ◌+◌, ℕ, zero, suc, Bool, true, false, List, [], length, Option, Some, None, refl, sym, subst, arith}
 use Rattle.std.specs.Prelude.{◌||◌, IfSome}
 use Rattle.std.specs.List.{AllByRecursion}
 use Rattle.batch.specs.Batches.{IsBatch}
@@ -9,14 +9,13 @@ use Rattle.board_wiring.specs.Boards.{IsBoardOf}
 use Rattle.board_wiring.specs.declared.board.Board.{Board as BoardText}
 use Rattle.clap.specs.Words.{Text}
 use Rattle.command_words.specs.Jobs.{Files}
-use Rattle.crossbar.specs.Pairs.{ArePairs, room_of}
+use Rattle.crossbar.specs.Pairs.{ArePairs, change, room_of}
 use Rattle.crossbar.specs.Switch.{enquiries}
 use Rattle.crossbar.specs.declared.board.BoardWiring.{BoardWiring}
 use Rattle.crossbar.specs.declared.chip.Chip.{Chip}
 use Rattle.crossbar.specs.declared.chip.Wiring.{Wiring}
 use Rattle.crossbar.specs.declared.pair.Pair.{Pair}
 use Rattle.crossbar.specs.declared.chip.Wiring.TheVariants.{Back, Board, Both, Forth}
-use Rattle.rack_answers.proofs.HeldSettings.{held_is_settled}
 use Rattle.rack_answers.proofs.ReadBatches.{all_joined}
 use Rattle.rack_answers.specs.Boards.{joined_on}
 use Rattle.exchange.proofs.EndStatuses.{never_done}
@@ -80,7 +79,8 @@ module _ (batch : List Transfer) (settings : List (List ℕ)) (fits : IsBatch ba
     are = λ k lt. turning_commands wiring (standing_before batch settings k) (pairs_at batch settings k) (standing k lt) (pairs_there k lt);
     quiet = λ k lt. quiet_turning wiring (standing_before batch settings k) (pairs_at batch settings k) (standing k lt) (pairs_there k lt);
     turn = λ switch k lt. settings_turn batch settings (room_of wiring) wiring switch k fits is has (omega arith) lt;
-    held = λ k lt same. held_is_settled batch settings k wiring fits is lt same;
+    changed = λ k lt. let e : suc k ≡ k + 1 = omega arith in
+        subst (λ (n : ℕ). sent_for wiring batch settings n ≡ change wiring (pairs_at batch settings k) (pairs_at batch settings n)) e refl;
   }
 
 turned : (batch : List Transfer) (settings : List (List ℕ)) (board : Option BoardWiring) (wide : Bool) → IsBatch batch → IsScheduleOf batch settings

@@ -23,7 +23,7 @@ use Rattle.named_files.specs.Clients.{ends_of}
 use Rattle.exchange.specs.Responses.{Given, IsJobAnswer, IsJobCut, IsTalk, Named, Response}
 use Rattle.named_files.specs.Notes.{note_of, refusal_of, unanswered, AreToldLines, GivesUp, HasToldLines, IsNoAnswer, IsNoteOn, IsToldInPart, IsToldUnless}
 use Rattle.exchange.specs.Notes.{IsJobWarnedOf, IsBeside, IsNoted, MayTell, TellsLines, told_there}
-use Rattle.exchange.specs.Outcomes.{IsAnswered, IsJobFailure, IsUnanswered}
+use Rattle.exchange.specs.Outcomes.{IsAnswered, IsJobFailure}
 use Rattle.command_words.specs.declared.jobs.ArgumentsFault.TheVariants as arguments_fault
 use Rattle.command_words.specs.Jobs.{AskFor, file_uses}
 use Rattle.exchange.specs.declared.limits.TheConstants.{UNWRITTEN}
@@ -199,7 +199,7 @@ cut_short (missed.OutputFailure what) behind cut told before after so part = inr
 pub refused_in_part : {E : Type 0} (r : Result ℕ E) (named : Named) (leaves : Leaving) (arguments : List (List ℕ)) (given : Given) (request : Request)
     (told : List ℕ) (m : JobFailure) (behind : List ℕ → Type 0) (before mid after : Option (List ℕ))
     → AskFor arguments request → Appends before mid told
-    → IsJobFailure behind (IsJobCut named.holds given request.job leaves.ports leaves.ends) told m
+    → IsJobFailure behind (IsJobCut named given request.job leaves.ports leaves.ends) told m
     → (behind told → (told ≡ []) × ((end : Printed) → leaves.keeps request.job (record { told = told; end = end; left = None; ports = given.ports; ends = [] })))
     → leaves.cut request.job → OnErr r (MatchOption (refusal_of m) (after ≡ mid) (λ why. IsToldInPart mid after (unanswered why).text))
     → OnErr r (IsCutFor named leaves arguments given before after)
@@ -208,7 +208,7 @@ refused_in_part (Err e) named leaves arguments given request told m behind befor
   Ok request,
   ask,
   tt,
-  elim (cut_short m behind (IsJobCut named.holds given request.job leaves.ports leaves.ends) told mid after so cut) [
+  elim (cut_short m behind (IsJobCut named given request.job leaves.ports leaves.ends) told mid after so cut) [
     | inl t ↦
         let none = keeps t.0 in
         let response : Response = record { told = told; end = t.1; left = None; ports = given.ports; ends = [] } in

@@ -105,7 +105,7 @@ pub record HasEnded {C : Type 0} (named : Named) (received : C → Closed) (give
       })
       × AreKeptBut named.holds received request.job book left.receipts done.lost)
       (IsUnanswered given.ports left.ports left.ends)
-      (IsJobCut named.holds given request.job left.ports left.ends) end
+      (IsJobCut named given request.job left.ports left.ends) end
   pub note : HasNote end
   pub beside : IsBeside (IsJobWarnedOf named.holds given request.job) request streams.err_before
       streams.err_after
@@ -184,7 +184,7 @@ abbrev pub IsDoneInPart : Named → Leaving → Given → Request → (before af
 IsDoneInPart named left given request before after =
     ((response : Response) × IsResponseTo named given request.job response
     × left.keeps request.job response × IsToldInPart before after (printed_of response).text)
-    ⊎ ((told : List ℕ) × IsJobCut named.holds given request.job left.ports left.ends told
+    ⊎ ((told : List ℕ) × IsJobCut named given request.job left.ports left.ends told
     × left.cut request.job × Appends before after told)
 
 -- the same of arguments that are at fault; of clap's texts it may be anything

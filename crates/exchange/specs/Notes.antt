@@ -1,7 +1,6 @@
 -- What is told on standard error beside what is printed.
 use Rattle.std.specs.Prelude.{◌≡◌, ◌≢◌, ◌⊎◌, ◌++◌, ◌<◌, ⊤, ℕ, false, List, [], Option, None, String}
 use Rattle.std.specs.Prelude.{codes, string_bytes}
-use Rattle.std.specs.Fmt.{decimal}
 use Rattle.std.specs.Io.KnownBytes.{Appends}
 use Rattle.client_session.specs.Listening.{ListenerLog, TellsOfRefusals}
 use Rattle.plan_answers.specs.Refusals.{Printed}
@@ -15,7 +14,7 @@ use Rattle.refusals.specs.declared.refusal.Refusal.{Refusal}
 use Rattle.refusals.specs.declared.refusal.Refusal.TheVariants.{NoMemory}
 use Rattle.batch.specs.ShapeView.{widest}
 use Rattle.batch.specs.Overlap.{Overlap}
-use Rattle.batch.specs.Text.{Denotes}
+use Rattle.batch.specs.Text.{Denotes, number}
 use Rattle.batch.specs.declared.transfer.Transfer.{Transfer}
 use Rattle.command_words.specs.Jobs.{Files, files_of}
 use Rattle.named_files.specs.Contents.{AreContents, Holding}
@@ -45,23 +44,23 @@ abbrev pub HasOverlap : List ℕ → Type 0
 HasOverlap text =
     (batch : List Transfer) × (i j : ℕ) × Denotes widest text batch × Overlap batch i j
 
--- this is the text of a picture that is so wide
-abbrev pub HasWidth : List ℕ → ℕ → Type 0
-HasWidth text width =
-    (rest : List ℕ)
-    × (text ≡ codes "<svg xmlns='http://www.w3.org/2000/svg' width='" ++ (decimal width
-    ++ (codes "'" ++ rest)))
+-- this is the text of a picture that is so high
+abbrev pub HasHeight : List ℕ → ℕ → Type 0
+HasHeight text height =
+    (width : ℕ) × (rest : List ℕ)
+    × (text ≡ codes "<svg xmlns='http://www.w3.org/2000/svg' width='" ++ (number width 39
+    ++ (codes " height='" ++ (number height 39 ++ rest))))
 
--- it is a picture that is wider than common tools draw
-abbrev pub IsTooWide : List ℕ → Type 0
-IsTooWide text = (width : ℕ) × HasWidth text width × (MAX_DRAWN < width)
+-- it is a picture that is higher than common tools draw
+abbrev pub IsTooHigh : List ℕ → Type 0
+IsTooHigh text = (height : ℕ) × HasHeight text height × (MAX_DRAWN < height)
 
 -- what a line warns of beside the answer to a job whose files contain this: `draw` of such a
 -- picture, `plan`, `switch` and `drive` of two such transfers
 abbrev pub IsWarnedOf : Job → Files (List ℕ) → Type 0
 IsWarnedOf (Texts (Draw batch schedule settings)) files =
     (drawn : Printed) × IsDrawn widest (text_in files.list) (text_in files.schedule) settings drawn
-    × IsTooWide drawn.text
+    × IsTooHigh drawn.text
 IsWarnedOf (Texts (Plan batch planning workers)) files = HasOverlap (text_in files.list)
 IsWarnedOf (Texts (Switch batch source wiring has_two workers)) files =
     HasOverlap (text_in files.list)

@@ -29,7 +29,7 @@ use Rattle.command_words.specs.declared.jobs.TextJob.TheVariants.{Switch as Swit
 use Rattle.command_words.specs.declared.jobs.PortJob.TheVariants.{C004, Drive}
 use Rattle.command_words.specs.declared.jobs.SessionJob.{SessionJob}
 use Rattle.command_words.specs.declared.jobs.SessionJob.TheVariants.{Host, Serve, Talk}
-use Rattle.crossbar.specs.Pairs.{switch_of}
+use Rattle.crossbar.specs.Pairs.{change, switch_of}
 use Rattle.crossbar.specs.Switch.{Switch, after_all, answers, enquiries, idle}
 use Rattle.crossbar.specs.declared.board.BoardWiring.{BoardWiring}
 use Rattle.crossbar.specs.declared.chip.Wiring.{Wiring}
@@ -59,16 +59,17 @@ use Rattle.plan_answers.specs.declared.setting_range.SettingRange.{SettingRange}
 use Rattle.schedule_picture.specs.Laws.{AreFewest, CellsOverlap, IsDrawnAt}
 use Rattle.schedule_picture.specs.Picture.{changes_words, columns_text, heading_text}
 use Rattle.schedule_picture.specs.declared.shown.ShownSettings.{ShownSettings}
-use Rattle.steady_schedule.specs.Changes.{changes, join_same}
+use Rattle.steady_schedule.specs.Changes.{changes}
 use Rattle.plan_answers.specs.declared.source.Planning.{Planning}
 use Rattle.plan_answers.specs.declared.source.Planning.TheVariants.{Plain, Steady}
 use Rattle.plan_answers.specs.declared.source.ScheduleSource.{ScheduleSource}
 use Rattle.plan_answers.specs.declared.source.ScheduleSource.TheVariants as source
 use Rattle.rack_answers.specs.Reports.{report_for}
 use Rattle.rack_answers.specs.Switching.{lines_on}
-use Rattle.steady_schedule.specs.Needs.{ChangesAtNeed, setting_at}
+use Rattle.steady_schedule.specs.Needs.{ChangesAtNeed}
 use Rattle.steady_schedule.specs.Prices.{AreNeeded}
 use Rattle.switch_settings.specs.Racks.{is_wide}
+use Rattle.switch_settings.specs.Sending.{pairs_at}
 use Rattle.switch_settings.specs.Settings.{numbers_in, setting_pairs}
 use Rattle.batch.specs.Faults.{IsFirstFault}
 use Rattle.batch.specs.declared.fault.BatchFault.{BatchFault}
@@ -97,7 +98,7 @@ use Rattle.crossbar.specs.Traffic.{bytes_to, conversed}
 use Rattle.crossbar.specs.declared.chip.Chip.{Chip}
 use Rattle.crossbar.specs.declared.chip.Chip.TheVariants.{A, B}
 use Rattle.crossbar.specs.declared.traffic.Passing.{Passing}
-use Rattle.drive_answers.specs.Answers.{is_wide_over}
+use Rattle.drive_answers.specs.Answers.{IsStart, is_wide_over}
 use Rattle.drive_answers.specs.Endings.{completed_line, fault_words, left_line, stopped_line}
 use Rattle.drive_answers.specs.Ways.{IsUnopened, Names, Ways, how_many, used}
 use Rattle.switch_driver.specs.Laws.{JoinsAs}
@@ -105,7 +106,7 @@ use Rattle.switch_driver.specs.Lines.{driven_line}
 use Rattle.switch_settings.specs.declared.fault.SettingFault.{SettingFault}
 use Rattle.switch_settings.specs.Answers.{AllAgree}
 use Rattle.switch_settings.specs.Pairs.{all_enquiries}
-use Rattle.batch_book.specs.History.{BookView, AreUnstopped, IsReplay, IsPrefix}
+use Rattle.batch_book.specs.History.{IsPrefix}
 use Rattle.batch_book.specs.Machine.{Machine, opened}
 use Rattle.batch_book.specs.Seats.{own}
 use Rattle.batch_book.specs.Values.{greatest}
@@ -132,6 +133,7 @@ use Rattle.recorded_sessions.specs.Answers.{IsWrongStart}
 use Rattle.rack_answers.specs.Openings.{IsOfImageOrMarked, IsRackOf, IsWrongRack}
 use Rattle.record_replay.specs.ReplayAnswers.{IsNoRecordOn, IsRecordOn, IsShapeOf, of_record}
 use Rattle.record_replay.specs.Replays.{IsRecordError, IsRemade}
+use Rattle.record_replay.specs.Steps.{AreSeenSteps}
 use Rattle.record_replay.specs.declared.fault.RecordError.{RecordError}
 use Rattle.exchange.specs.declared.limits.TheConstants.{MISUSED, UNWRITTEN}
 
@@ -359,7 +361,8 @@ switches_of None wide = if wide then (A, Forth) ∷ (B, Back) ∷ [] else (A, Bo
 
 -- The commands are those of a C004, and none of them asks for a reply. Whatever the switch was,
 -- after those for the settings up to each it joins just the pairs of links that this one needs,
--- and is ready. For a setting that joins the same pairs as the one before nothing is cut or joined.
+-- and is ready. From one setting to the next just the pairs that go are cut, and those that come
+-- are joined.
 pub record Turn (wiring : Wiring) (batch : List Transfer) (settings : List (List ℕ))
     (commands : ℕ → List Command) : Type 0 where
   pub are : (k : ℕ) → k < length settings → AreCommands (commands k)
@@ -367,9 +370,9 @@ pub record Turn (wiring : Wiring) (batch : List Transfer) (settings : List (List
   pub turn : (switch : Switch) (k : ℕ) → k < length settings
       → after_all (flat_map commands (range_with_len 0 (k + 1))) switch
       ≡ switch_of wiring (setting_pairs batch (numbers_in settings k))
-  pub held : (k : ℕ) → k + 1 < length settings
-      → join_same batch (setting_at settings k) (setting_at settings (k + 1)) ≡ true
-      → commands (k + 1) ≡ Settle ∷ []
+  pub changed : (k : ℕ) → k + 1 < length settings
+      → commands (k + 1)
+      ≡ change wiring (pairs_at batch settings k) (pairs_at batch settings (k + 1))
 
 -- Printed were, for each setting of a schedule and nothing else, the bytes of such commands for
 -- each switch. They are two where that was said, or where the batch names a module that one doesn't
@@ -467,7 +470,7 @@ pub data IsFirstWrongOn (from : ScheduleSource (List ℕ)) (text : List ℕ) (wi
       → IsFirstWrongOn from text wiring first refusal
   no_setting : (board : Option BoardText) (batch : List Transfer) (settings : List (List ℕ))
       → IsBoardOf wiring board → SaySchedule from text batch settings → HasWaysOn board batch
-      → 0 < first → length settings ≤ first → refusal ≡ NoSetting first
+      → (IsStart first settings → ⊥) → refusal ≡ NoSetting first
       → IsFirstWrongOn from text wiring first refusal
 
 -- The last line of a drive that ends early, where this setting of so many is next, and this passed
@@ -480,11 +483,11 @@ IsLastLine first next all more line =
     ⊎ ((k : ℕ) × (first ≤ k) × (k < all) × (next ≡ k + 1) × (more ≡ [])
     × ((line ≡ left_line k) ⊎ (line ≡ stopped_line k (codes "input"))))
 
--- The ports of these names were opened, once. A front of what passed over them is that of settings
--- that stood, each with its line, and after these lines stands the last one. With status 0 all
--- settings from the first one on stood, and nothing more passed. A rack that is wired as usual has
--- then two switches where there are two ports, or where the batch needs two; there is a port for
--- each.
+-- The schedule has the first setting, or that is 0. The ports of these names were opened, once. A
+-- front of what passed over them is that of settings that stood, each with its line, and after
+-- these lines stands the last one. With status 0 all settings from the first one on stood, and
+-- nothing more passed. A rack that is wired as usual has then two switches where there are two
+-- ports, or where the batch needs two; there is a port for each.
 pub record HasDriven (w : World) (names : Names) (scheduled : ScheduleSource Text) (first : ℕ)
     (texts : Files (List ℕ)) (printed : List ℕ) : Type 0 where
   pub transfers : List Transfer
@@ -497,6 +500,7 @@ pub record HasDriven (w : World) (names : Names) (scheduled : ScheduleSource Tex
   pub line : List ℕ
   pub said : FilesSaySchedule scheduled texts transfers settings
   pub wired : IsWired texts.wiring transfers board
+  pub starts : IsStart first settings
   pub opened : w.after ≡ used names (Some (earlier ++ more)) failed w.before
   pub stood : StoodInTurn board (is_wide_over names transfers) transfers settings first count
       earlier
@@ -645,15 +649,13 @@ pub record IsSessionOf (calls : Calls) (came : Option (List ℕ)) (s : Session) 
   pub stand : IsPrefix (added_entries s.turns) (own s.number calls.standing)
   pub ends : EndsSo calls.recorded s untold unseen s.fault
 
--- Each answer follows from the calls before it, and no run was stopped. Just the calls of these
--- sessions stand there after the earlier ones, and the first of them in the record. The progress
--- that a session saw never fell back, was no less than that of the earlier calls, and no more than
--- that of all.
+-- Each answer follows from the calls before it. Just the calls of these sessions stand there after
+-- the earlier ones, and the first of them in the record. The progress that a session saw never fell
+-- back, was no less than that of the earlier calls, and no more than that of all.
 pub record HaveOneOrder (calls : Calls) (sessions : List Session) : Type 0 where
-  pub right : IsReplay (opened calls.opening) (all_calls calls) calls.left
+  pub right : AreSeenSteps (opened calls.opening) (all_calls calls) calls.left
   pub no_other : length calls.made ≡ sum_by (λ s. length (own s.number calls.made)) sessions
   pub front : IsPrefix calls.standing calls.made
-  pub unstopped : AreUnstopped (all_calls calls)
   pub seen : AllByRecursion
       (λ s. AreReadings (greatest calls.earlier) (greatest (all_calls calls)) (all_turns s))
       sessions
@@ -725,8 +727,7 @@ IsAsItWas run record_out names file =
 -- one no call is missing in the end.
 abbrev pub GoesOnFrom : Run → Option RecordFile → List Text → Calls → Type 0
 GoesOnFrom run record_out names calls =
-    ((was : BookView) × BeginsFor run.holds record_out calls.opening names was
-    × (calls.earlier ≡ was.history))
+    BeginsFor run.holds record_out calls.opening names calls.earlier
     × (record_out ≡ None → (calls.recorded ≡ false) × (calls.standing ≡ calls.made))
 
 -- a client's session at a host, and how it ended
@@ -910,27 +911,31 @@ KeepsUnread w = LeavesAll w × IsMisused w.run
 
 -- ---- each command
 
--- what came of a job that ended with status 0
-abbrev pub IsDone : World → Job → Files (List ℕ) → List ℕ → Type 0
-IsDone w (Texts (Plan file planning workers)) texts printed =
+-- what came of a job of texts that ended with status 0
+abbrev pub IsTextDone : TextJob → Files (List ℕ) → List ℕ → Type 0
+IsTextDone (Plan file planning workers) texts printed =
     HasPlanned planning (text_in texts.list) printed
-IsDone w (Texts (Check batch schedule)) texts printed =
+IsTextDone (Check batch schedule) texts printed =
     HasChecked (text_in texts.list) (text_in texts.schedule) printed
-IsDone w (Texts (Draw batch schedule chosen)) texts printed =
+IsTextDone (Draw batch schedule chosen) texts printed =
     HasDrawn (text_in texts.list) (text_in texts.schedule) chosen printed
-IsDone w (Texts (Prices batch schedule)) texts printed =
+IsTextDone (Prices batch schedule) texts printed =
     HasPriced (text_in texts.list) (text_in texts.schedule) printed
-IsDone w (Texts (SwitchJob batch scheduled wiring has_two workers)) texts printed =
+IsTextDone (SwitchJob batch scheduled wiring has_two workers) texts printed =
     HasSwitched scheduled has_two texts printed
-IsDone w (Texts (Orders batch scheduled only workers)) texts printed =
+IsTextDone (Orders batch scheduled only workers) texts printed =
     HasOrdered scheduled only texts printed
-IsDone w (Texts (Direct moves)) texts printed = HasDirected (text_in texts.list) printed
-IsDone w (Texts (Apply shape batch image workers)) texts printed =
+IsTextDone (Direct moves) texts printed = HasDirected (text_in texts.list) printed
+IsTextDone (Apply shape batch image workers) texts printed =
     HasApplied shape (text_in texts.list) (text_in texts.schedule) printed
-IsDone w (Texts (RunJob shape batch scheduled image workers)) texts printed =
+IsTextDone (RunJob shape batch scheduled image workers) texts printed =
     HasRunBatch shape scheduled texts printed
-IsDone w (Texts (Replay shape recorded image first)) texts printed =
+IsTextDone (Replay shape recorded image first) texts printed =
     HasReplayed shape (text_in texts.list) texts.image first printed
+
+-- what came of any job that did
+abbrev pub IsDone : World → Job → Files (List ℕ) → List ℕ → Type 0
+IsDone w (Texts job) texts printed = IsTextDone job texts printed
 IsDone w (OverPorts (Drive batch port port_b scheduled wiring first goes_on workers)) texts
     printed =
     HasDriven w (names_in port port_b) scheduled first texts printed
@@ -986,11 +991,12 @@ KeepsFronts w front =
     (record w { run = record w.run { prints = front; status = other }; whole = false })
 
 -- The files that a job writes were seen to be others than those that it reads, and than each other,
--- as far as it is told where their names lead; or there was no answer.
-abbrev pub KeepsApart : Leading → Run → Type 0
-KeepsApart leads run =
-    (job : Job) → AsksFor run job
-    → AreSeenApart leads (file_uses job) ⊎ (HasGivenUp run ⊎ (run.status ≡ UNWRITTEN))
+-- as far as it is told where their names lead. Or there was no answer, and nothing is left of it.
+abbrev pub KeepsApart : Leading → World → Type 0
+KeepsApart leads w =
+    (job : Job) → AsksFor w.run job
+    → AreSeenApart leads (file_uses job)
+    ⊎ ((HasGivenUp w.run ⊎ (w.run.status ≡ UNWRITTEN)) × IsUndone w job)
 
 -- A run of the program keeps them, and its status is 3 at most: it, and where a front was printed.
 -- Its arguments ask for one thing at most.
@@ -998,6 +1004,6 @@ pub record KeepsPromises (leads : Leading) (w : World) (front : List ℕ → Typ
   pub one : AskForOne w.run.words
   pub ends : w.run.status ≤ UNWRITTEN
   pub jobs : KeepsJobs w
-  pub apart : KeepsApart leads w.run
+  pub apart : KeepsApart leads w
   pub nothing : KeepsNothing w
   pub fronts : KeepsFronts w front

@@ -162,13 +162,6 @@ IsJobAnswer holds given job response =
     × AreContents holds given.input (files_of job) files rest
     × IsAnswerTo holds job files (given_by rest given.ports given.clients) response
 
--- the same of what was told where not all of it could be written
-abbrev pub IsJobCut : Holding → Given → Job → Ways → List SessionEnd → List ℕ → Type 0
-IsJobCut holds given job ports ends told =
-    (files : Files (List ℕ)) × (rest : Option (List ℕ))
-    × AreContents holds given.input (files_of job) files rest
-    × IsToldCut job files rest given.ports ports told × (ends ≡ [])
-
 -- the job is `talk`
 abbrev pub IsTalk : Job → Type 0
 IsTalk (Sessions rack Talk) = ⊤
@@ -181,6 +174,15 @@ pub record Named : Type 1 where
 
 abbrev pub named_by : Holding → Leading → Named
 named_by holds leads = record { holds = holds; leads = leads }
+
+-- What was told before an answer where not all of it could be written: then what the job writes was
+-- seen to be apart from what it reads.
+abbrev pub IsJobCut : Named → Given → Job → Ways → List SessionEnd → List ℕ → Type 0
+IsJobCut named given job ports ends told =
+    AreSeenApart named.leads (file_uses job)
+    × (files : Files (List ℕ)) × (rest : Option (List ℕ))
+    × AreContents named.holds given.input (files_of job) files rest
+    × IsToldCut job files rest given.ports ports told × (ends ≡ [])
 
 -- The answer to a job, and then what it writes was seen to be apart from what it reads; or why
 -- there is none, and then nothing was told, no port was opened, no end of a session is known, and

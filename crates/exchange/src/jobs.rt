@@ -44,6 +44,7 @@ use std::alloc::{AllocError, Global};
 use std::io;
 use std::io::{Read, Write};
 use std::thread::Threads;
+use step_count::Steps;
 
 /// How a job ended, and what is left of what was opened for it to be written.
 pub(crate) struct JobEnd<C> {
@@ -55,7 +56,7 @@ pub(crate) struct JobEnd<C> {
 /// told its replies on `out` before, and a line on `err` beside each that is a refusal, but for
 /// lack of memory. `drive` tells its settings on `out` before, and `c004` writes its answers to
 /// enquiries there, and tells on `err` what it drops. `plan`, `switch` and `drive` tell on `err`
-/// where two transfers write one block, `draw` where its picture is wider than common tools draw,
+/// where two transfers write one block, `draw` where its picture is higher than common tools draw,
 /// `host` which files of clients couldn't be opened, and `replay` how far a record goes that hasn't
 /// ended. It is looked first where names lead. Then the files for the record of sessions and for
 /// the image that they leave are opened, before any other is read, and all that are read are read
@@ -353,7 +354,14 @@ fn answer_texts<R: AllocGlobal + Threads + Sync>(
             planning,
             workers,
             ..
-        } => Ok(JobResult::alone(answer_plan(rt, alloc, list, *planning, *workers)?)),
+        } => Ok(JobResult::alone(answer_plan(
+            rt,
+            alloc,
+            list,
+            *planning,
+            *workers,
+            &mut Steps::none(),
+        )?)),
         TextJob::Check { .. } => Ok(JobResult::alone(answer_check(alloc, list, schedule)?)),
         TextJob::Draw { settings, .. } => {
             let range = bytes_in(settings);

@@ -18,7 +18,7 @@
 //! [`System`](named_files::System) tells: of the real one contracts know none but the bytes of
 //! standard input. Beside what it prints for a job, standard error gets at most a front of one text
 //! of a refusal, and what is told beside `talk`, `c004`, `host` and `replay`, and beside `plan`,
-//! `switch` and `drive` where transfers overlap, and `draw` where a picture is wide (`IsNoted` of
+//! `switch` and `drive` where transfers overlap, and `draw` where a picture is high (`IsNoted` of
 //! `specs/Notes.antt`).
 #![tactic(auto)]
 

@@ -1,11 +1,11 @@
 //! What is told on standard error beside answers: that two transfers write one block, by `plan`,
-//! `switch` and `drive`, and by `draw` that a picture is wider than common tools draw. Neither is a
-//! refusal, and it is told after all that refuses.
+//! `switch` and `drive`, and by `draw` that a picture is higher than common tools draw. Neither is
+//! a refusal, and it is told after all that refuses.
 
 ghost use Rattle.std.specs.Prelude.{◌≡◌, IfSome, string_bytes};
 ghost use Rattle.named_files.specs.Contents.{contents_in};
 ghost use Rattle.named_files.specs.Notes.{IsWholeLine};
-ghost use Rattle.exchange.specs.Notes.{HasOverlap, HasWidth, IsTooWide, IsWarnedOf, IsWarning};
+ghost use Rattle.exchange.specs.Notes.{HasHeight, HasOverlap, IsTooHigh, IsWarnedOf, IsWarning};
 ghost use Rattle.exchange.specs.Responses.{IsTextAnswer, text_in};
 ghost use Rattle.exchange.specs.Warnings.{MayHaveWarned};
 ghost use Rattle.command_words.specs.declared.jobs.Job.TheVariants.{Texts as OfTexts};
@@ -19,7 +19,7 @@ use refusals::Refusal;
 use std::alloc::Global;
 use std::io::Write;
 
-/// The most pixels in width that common tools draw.
+/// The most pixels in height that common tools draw.
 pub const MAX_DRAWN: usize = 32_767;
 
 /// The line that tells of the first two transfers of a batch that write one block, where two do and
@@ -37,27 +37,29 @@ fn overlap_line(alloc: Global, list: NamedText<'_>) -> Option<String>
     second_line(alloc, Refusal::Overlap(i, j), texts)
 }
 
-/// How many pixels wide the picture of this text is; none where it is no picture.
-fn width_of(text: &[u8]) -> Option<usize>
-    ensures { IfSome result (HasWidth text.now) }
+/// How many pixels high the picture of this text is; none where it is no picture.
+fn height_of(text: &[u8]) -> Option<usize>
+    ensures { IfSome result (HasHeight text.now) }
 {
     let size = text.strip_prefix(b"<svg xmlns='http://www.w3.org/2000/svg' width='")?;
-    let (width, _) = number_before(size, b'\'')?;
-    Some(width)
+    let (_, after) = number_before(size, b'\'')?;
+    let rest = after.strip_prefix(b" height='")?;
+    let (height, _) = number_before(rest, b'\'')?;
+    Some(height)
 }
 
-/// The line that tells how wide the picture of a schedule is, where common tools don't draw it and
+/// The line that tells how high the picture of a schedule is, where common tools don't draw it and
 /// there is memory for the line.
-fn wide_line(alloc: Global, schedule: &str, picture: &[u8]) -> Option<String>
+fn high_line(alloc: Global, schedule: &str, picture: &[u8]) -> Option<String>
     ensures whole { IfSome result (λ line. IsWholeLine (string_bytes line)) }
-    ensures wide { IfSome result (λ _. IsTooWide picture.now) }
+    ensures high { IfSome result (λ _. IsTooHigh picture.now) }
 {
-    let width = width_of(picture)?;
-    if width <= MAX_DRAWN {
+    let height = height_of(picture)?;
+    if height <= MAX_DRAWN {
         return None;
     }
     let why = format!(in alloc;
-        "the picture is {width} pixels wide, and common tools draw at most {MAX_DRAWN}; \
+        "the picture is {height} pixels high, and common tools draw at most {MAX_DRAWN}; \
 --settings draws some settings alone"
     )
     .ok()?;
@@ -112,7 +114,7 @@ pub(crate) fn warning_of(
         TextJob::Plan { .. } => overlap_warning_of(alloc, request, contents),
         TextJob::Switch { .. } => overlap_warning_of(alloc, request, contents),
         TextJob::Draw { schedule, .. } if !request.is_quiet => {
-            wide_line(alloc, schedule.as_str(), answer.text())
+            high_line(alloc, schedule.as_str(), answer.text())
         }
         _ => None,
     }

@@ -43,6 +43,7 @@ pub use status::{
     REPLY,
 };
 use std::alloc::{AllocError, Global};
+use step_count::Steps;
 pub use switch::{
     exchange_c004_joined, exchange_c004_reset, exchange_c004_source, exchange_c004_take,
 };
@@ -86,7 +87,14 @@ pub extern "C" fn exchange_plan(
 ) -> u8
     ensures { Leaves (IsPlanned Plain widest batch.now) out.old out.new count.new result }
 {
-    let answer = answer_plan(&NoThreads, alloc, batch, Planning::Plain, WorkerCount::ONE);
+    let answer = answer_plan(
+        &NoThreads,
+        alloc,
+        batch,
+        Planning::Plain,
+        WorkerCount::ONE,
+        &mut Steps::none(),
+    );
     leave(answer, out, count)
 }
 
@@ -100,7 +108,14 @@ pub extern "C" fn exchange_plan_steady(
 ) -> u8
     ensures { Leaves (IsPlanned Steady widest batch.now) out.old out.new count.new result }
 {
-    let answer = answer_plan(&NoThreads, alloc, batch, Planning::Steady, WorkerCount::ONE);
+    let answer = answer_plan(
+        &NoThreads,
+        alloc,
+        batch,
+        Planning::Steady,
+        WorkerCount::ONE,
+        &mut Steps::none(),
+    );
     leave(answer, out, count)
 }
 

@@ -16,6 +16,7 @@ use refusal_notes::{Listing, NamedText, RefusalContext, second_line};
 use refusals::{Refusal, Validity};
 use schedule_certificate::NoThreads;
 use std::alloc::{AllocError, Global};
+use step_count::Steps;
 
 /// A call that answers to texts.
 #[derive(Clone, Copy)]
@@ -82,7 +83,14 @@ impl LibraryCall {
         let (first, second, third) = (given.first, given.second, given.third);
         let (rt, workers) = (&NoThreads, WorkerCount::ONE);
         match self {
-            LibraryCall::Plan => answer_plan(rt, alloc, first, Planning::Plain, workers),
+            LibraryCall::Plan => answer_plan(
+                rt,
+                alloc,
+                first,
+                Planning::Plain,
+                workers,
+                &mut Steps::none(),
+            ),
             LibraryCall::Check => answer_check(alloc, first, second),
             LibraryCall::Switch => answer_switch(
                 rt,

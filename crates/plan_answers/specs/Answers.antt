@@ -1,9 +1,9 @@
 -- What `plan` and `check` answer.
-use Rattle.std.specs.Prelude.{◌≡◌, ℕ, List, ◌++◌, length, Option, Some, None, codes}
+use Rattle.std.specs.Prelude.{◌≡◌, ◌≤◌, ◌+◌, ◌^◌, ℕ, List, ◌++◌, length, Option, Some, None, codes}
 use Rattle.std.specs.Fmt.{decimal}
 use Rattle.batch.specs.declared.fault.BatchFault.{BatchFault}
 use Rattle.batch.specs.declared.transfer.Transfer.{Transfer}
-use Rattle.batch.specs.ShapeView.{ShapeView}
+use Rattle.batch.specs.ShapeView.{ShapeView, widest}
 use Rattle.batch.specs.Text.{Denotes}
 use Rattle.batch.specs.Faults.{IsFirstFault}
 use Rattle.link_graph.specs.declared.check_fault.CheckFault.{CheckFault}
@@ -14,8 +14,10 @@ use Rattle.refusals.specs.declared.refusal.Refusal.{Refusal}
 use Rattle.refusals.specs.declared.refusal.Refusal.TheVariants.{NoCertificate}
 use Rattle.refusals.specs.Refusals.{refusal_words}
 use Rattle.refusals.specs.Sources.{of_batch, of_check}
+use Rattle.schedule_certificate.specs.Steps.{UsesAtMost, most_steps}
 use Rattle.plan_answers.specs.declared.limits.TheConstants.{DONE}
 use Rattle.plan_answers.specs.declared.source.Planning.{Planning}
+use Rattle.plan_answers.specs.declared.source.Planning.TheVariants.{Plain}
 use Rattle.plan_answers.specs.Refusals.{Printed, IsRefused}
 use Rattle.plan_answers.specs.Schedules.{IsPlannedAs}
 use Rattle.plan_answers.specs.Texts.{AreTexts, IsTextWrong}
@@ -46,6 +48,12 @@ pub data IsPlanned (planning : Planning) (shape : ShapeView) (batch : List ℕ) 
       → IsPlanned planning shape batch printed
   refused : (fault : BatchFault) → IsFirstFault shape batch fault
       → IsRefused (refusal_words (of_batch fault)) printed → IsPlanned planning shape batch printed
+
+-- A plain plan of the text's batch took no more steps, if none of its links has more than 2^k uses.
+abbrev pub TakesFewSteps : Planning → List ℕ → (before after : ℕ) → Type 0
+TakesFewSteps planning text before after =
+    planning ≡ Plain → (batch : List Transfer) (k : ℕ) → Denotes widest text batch
+    → UsesAtMost batch (2 ^ k) → after ≤ before + most_steps (length batch) k
 
 -- ---- `check`
 

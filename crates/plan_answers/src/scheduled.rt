@@ -17,6 +17,7 @@ use schedule_certificate::{Planned, Planner};
 use std::alloc::{AllocError, Global};
 use std::marker::Model;
 use steady_schedule::{Steady, steady};
+use step_count::Steps;
 
 /// What a schedule came from.
 #[derive(Drop)]
@@ -91,7 +92,12 @@ impl Scheduled {
             × IsPlannedAs planning planned.batch planned.settings named) }
     {
         match planning {
-            Planning::Plain => Ok(Scheduled::of(rt.plan(alloc, batch, workers)?)),
+            Planning::Plain => Ok(Scheduled::of(rt.plan(
+                alloc,
+                batch,
+                workers,
+                &mut Steps::none(),
+            )?)),
             Planning::Steady => {
                 let plan = steady(alloc, &batch)?;
                 Ok(Scheduled {

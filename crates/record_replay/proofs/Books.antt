@@ -35,6 +35,7 @@ use Rattle.record_replay.specs.Fetched.{AreOfLines}
 use Rattle.record_replay.specs.SessionLaws.{SessionsAreTold, SessionsSay}
 use Rattle.record_replay.proofs.Parts.{IsBelow, both_parts, replay_split}
 use Rattle.record_replay.proofs.Others.{no_others}
+use Rattle.record_replay.proofs.Steps.{steps_seen, tell_unstopped}
 use Rattle.record_replay.proofs.Written.{record_append}
 use Rattle.record_replay.specs.declared.answering.Torn.{Torn}
 use Rattle.record_replay.specs.ReplayAnswers.{led, replayed, IsShapeOf, IsTornSo}
@@ -161,6 +162,7 @@ record Made (limit : ℕ) (names : List (List ℕ)) (book : BookView) (file : Li
   first : IsPrefix front book.history
   end : Machine
   rest : List ℕ
+  legal : IsReplay (opened book.opening) front end
   remade : IsRemade limit body book.opening None front end rest
 
 -- a front of the last lines ends a record
@@ -172,7 +174,7 @@ line_ends n line (b ∷ missing) is = inr (end_is_no_entry.0 n line (b ∷ missi
 made_again : (limit : ℕ) (opening : Store) (es : List Entry) (end : Machine) (rest : List ℕ) → All CanTell es → All (IsBelow limit) es
     → IsReplay (opened opening) es end → Ends (length es) rest → IsRemade limit (texts 0 es ++ rest) opening None es end rest
 made_again limit opening es end rest can below legal ends = record {
-  replayed = record { front = refl; each = can; sessions = below; replay = legal };
+  replayed = record { front = refl; each = can; sessions = below; steps = steps_seen (opened opening) es end (tell_unstopped es can) legal };
   ends = inr (tt, ends);
 }
 
@@ -200,6 +202,7 @@ cut_made limit names book file waiting rest missing are can below legal has cut 
       first = starts front book.history c.more all;
       end = part.0;
       rest = c.rest;
+      legal = part.1;
       remade =
           made_again limit book.opening front part.0 c.rest (All-append CanTell book.durable c.whole parts.0 c.each)
           (both_parts (IsBelow limit) front c.more (subst (All (IsBelow limit)) all below)).0 part.1 (inr c.torn);
@@ -218,6 +221,7 @@ ended_made limit names book file line missing stand can below legal has cut =
       first = starts_same book.history book.history refl;
       end = book.machine;
       rest = line;
+      legal = legal;
       remade = made_again limit book.opening book.history book.machine line can below legal (line_ends (length book.history) line missing cut);
     }
 
@@ -252,15 +256,15 @@ all_wanted n E (inl never) = absurd cc
 all_wanted n E (inr ends) = ends.1
 
 replayed_to : (shape : List ℕ) (image : Option (List ℕ)) (opening : Store) (names : List (List ℕ)) (file body : List ℕ) (es : List Entry) (end : Machine)
-    (rest : List ℕ) → IsRackOf shape image opening → AreNames names (length names)
+    (rest : List ℕ) → IsRackOf shape image opening → AreNames names (length names) → IsReplay (opened opening) es end
     → file ≡ head_of opening.shape (adler (image_of opening)) names ++ body → IsRemade (session_limit (length names)) body opening None es end rest
     → IsReplayedTo shape image opening es file
-replayed_to shape image opening names file body es end rest rack are is remade =
+replayed_to shape image opening names file body es end rest rack are legal is remade =
     let torn = torn_where file (length es) rest (all_wanted (length es) (Ends (length es) rest) remade.ends) in
     record {
       each = remade.replayed.each;
       end = end;
-      led = remade.replayed.replay;
+      led = legal;
       answered = λ given same. (
         None,
         torn.0,
@@ -291,7 +295,7 @@ closing_replayed tell shape image loses was left parts text failed printed names
       has_told = made.has;
       first = made.first;
       replayed = replayed_to shape image left.opening names file made.body made.front made.end made.rest
-          (subst (IsRackOf shape image) (sym one.is_opening) rack) names_are made.is made.remade;
+          (subst (IsRackOf shape image) (sym one.is_opening) rack) names_are made.legal made.is made.remade;
     }
 
 no_names : AreNames [] 0
@@ -312,7 +316,7 @@ kept_replayed tell shape image opening parts text failed printed left n rack clo
     let last = last_lines (length left.history) in
     let head = head_of left.opening.shape (adler (image_of left.opening)) [] in
     replayed_to shape image left.opening [] (whole_record [] left.opening left.history) (texts 0 left.history ++ last) left.history left.machine last
-    (subst (IsRackOf shape image) (sym one.is_opening) rack) no_names (append_assoc head (texts 0 left.history) last)
+    (subst (IsRackOf shape image) (sym one.is_opening) rack) no_names (all_led false opening [] parts left one) (append_assoc head (texts 0 left.history) last)
     (made_again (session_limit 0) left.opening left.history left.machine last can (any_session left.history can) (all_led false opening [] parts left one)
     (inl refl))
 

@@ -4,6 +4,8 @@ use Rattle.std.specs.Prelude.{if◌then◌else◌, option_map, unwrap_or}
 use Rattle.std.proofs.lemmas.Bool.{false≢true}
 use Rattle.std.proofs.lemmas.List.{drop_at, length-append}
 use Rattle.std.proofs.lemmas.List.Elements.{All-push}
+use Rattle.record_replay.proofs.Steps.{steps_seen, tell_unstopped}
+use Rattle.record_replay.specs.Steps.{AreSeenSteps}
 use Rattle.batch.specs.Equal.{same_transfers}
 use Rattle.batch.proofs.Equal.{same_transfers-Decides}
 use Rattle.module_memory.specs.Store.{Store}
@@ -28,7 +30,7 @@ use Rattle.book_record.proofs.Streams.{texts_append}
 use Rattle.book_record.specs.Fronts.{IsSummed, last_lines}
 use Rattle.book_record.specs.Sums.{sum_at, sum_line, summed}
 use Rattle.record_replay.specs.declared.fault.RecordFault.{RecordFault}
-use Rattle.record_replay.specs.Replays.{AreFewer, IsPlanFor, HasOwnPlanIn, GoesOnBy, IsOtherReply, IsRecordFault, IsRecordError, IsWrongAt, damaged, no_call, other_reply, more_after}
+use Rattle.record_replay.specs.Replays.{AreFewer, IsPlanFor, HasOwnPlanIn, GoesOnBy, IsOtherReply, IsReplayed, IsRecordFault, IsRecordError, IsWrongAt, damaged, no_call, other_reply, more_after}
 
 -- ---- a plan of its own batch is no stranger's
 
@@ -94,6 +96,17 @@ going_on limit text opening k old new rest body after had summed_so by is =
           ∙ ap (λ (l : List ℕ). l ++ after) (sym more);
     }
 
+-- the book's history is what was made again
+pub replayed_so : (limit : ℕ) (text : List ℕ) (opening : Store) (k : ℕ) (book : BookView) (rest : List ℕ) → Going limit text opening k book rest
+    → IsReplay (opened book.opening) book.history book.machine → IsReplayed limit text opening book.history book.machine rest
+replayed_so limit text opening k book rest had led = record {
+  front = had.front;
+  each = had.each;
+  sessions = had.sessions;
+  steps = subst (λ (s : Store). AreSeenSteps (opened s) book.history book.machine) had.opened_so
+      (steps_seen (opened book.opening) book.history book.machine (tell_unstopped book.history had.each) led);
+}
+
 -- where the loop goes on, so many are fewer than are wanted
 fewer_so_far : (n k wanted most : ℕ) (first : Option ℕ) → n ≡ k → wanted ≡ unwrap_or first most → k < wanted → AreFewer n first
 fewer_so_far n k wanted most None same is less = tt
@@ -139,12 +152,7 @@ said_wrong limit text opening first k wanted most book last rest due error had l
       es = book.history;
       end = book.machine;
       last = last;
-      replayed = record {
-        front = had.front;
-        each = had.each;
-        sessions = had.sessions;
-        replay = subst (λ (s : Store). IsReplay (opened s) book.history book.machine) had.opened_so led;
-      };
+      replayed = replayed_so limit text opening k book last had led;
       fewer = fewer_so_far (length book.history) k wanted most first had.counted is less;
       wrong = subst (λ (n : ℕ). IsWrongAt limit n book.machine last error.fault rest due) (sym had.counted) wrong;
     } in

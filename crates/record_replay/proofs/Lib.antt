@@ -1,3 +1,4 @@
+pub mod Steps
 pub mod Entries
 mod Kept
 mod Strangers

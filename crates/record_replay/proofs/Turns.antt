@@ -68,7 +68,7 @@ logged_said : (by : ℕ) (c : Call) (r : Reply) → CanSay (told c) → SettlesN
 logged_said by c r say none = logged_if by c r (is_logged r) say none
 
 told_said : (by id : ℕ) (c : Call) (a : CommandOutcome) → CanSay (told c) → SettlesNone c → TellsReply by id c a → Said a.entries
-told_said by id c a say none tells = subst (λ (x : CommandOutcome). Said x.entries) (sym tells.2) (logged_said by c tells.0 say none)
+told_said by id c a say none tells = subst (λ (x : CommandOutcome). Said x.entries) (sym tells.1) (logged_said by c tells.0 say none)
 
 -- ---- a batch
 
@@ -85,7 +85,7 @@ batch_said shape text batch is denotes =
 submitted : (shape : ShapeView) (by : ℕ) (text : List ℕ) (a : CommandOutcome) → IsShape shape → Submits shape by text a → Said a.entries
 submitted shape by text a is (inl done) = told_said by 0 (call.Submit done.0) a (batch_said shape text done.0 is done.1) tt done.2
 submitted shape by text a is (inr (inl wrong)) = subst (λ (x : CommandOutcome). Said x.entries) (sym wrong.3) nothing
-submitted shape by text a is (inr (inr none)) = subst (λ (x : CommandOutcome). Said x.entries) (sym none.1) nothing
+submitted shape by text a is (inr (inr none)) = subst (λ (x : CommandOutcome). Said x.entries) (sym none) nothing
 
 -- ---- a plan
 
@@ -96,12 +96,12 @@ settled_if by id batch c r false say settles = (tt, tt)
 
 settles : (by id : ℕ) (batch : List Transfer) (a : CommandOutcome) → CanSay (told (call.Fetch id)) → Settles by id batch a → Said a.entries
 settles by id batch a say (inl done) =
-    let settled = settled_if by id batch (call.Settle id done.0) done.1 (is_logged done.1) say (refl, done.3) in
-    subst (λ (x : CommandOutcome). Said x.entries) (sym done.5) ((say, settled.0), (λ last. (settles_none last (call.Fetch id) tt, settled.1)))
+    let settled = settled_if by id batch (call.Settle id done.0) done.1 (is_logged done.1) say (refl, done.2) in
+    subst (λ (x : CommandOutcome). Said x.entries) (sym done.3) ((say, settled.0), (λ last. (settles_none last (call.Fetch id) tt, settled.1)))
 settles by id batch a say (inr none) = subst (λ (x : CommandOutcome). Said x.entries) (sym none) ((say, tt), (λ last. (settles_none last (call.Fetch id) tt, tt)))
 
 planned : (by id : ℕ) (a : CommandOutcome) → CanSay (told (call.Fetch id)) → Plans by id a → Said a.entries
-planned by id a say (inl refused) = subst (λ (x : CommandOutcome). Said x.entries) (sym refused.2) (logged_said by (call.Fetch id) (Refused refused.0) say tt)
+planned by id a say (inl refused) = subst (λ (x : CommandOutcome). Said x.entries) (sym refused.1) (logged_said by (call.Fetch id) (Refused refused.0) say tt)
 planned by id a say (inr fetched) = settles by id fetched.0 a say fetched.1
 
 -- ---- commands

@@ -1,3 +1,4 @@
+pub mod Steps
 pub mod Replays
 pub mod Fetched
 pub mod SessionLaws

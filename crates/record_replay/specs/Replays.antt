@@ -10,14 +10,15 @@ use Rattle.batch_book.specs.declared.call.Call.TheVariants.{Settle}
 use Rattle.batch_book.specs.declared.entry.Entry.{Entry}
 use Rattle.batch_book.specs.declared.stored_batch.StoredBatch.{StoredBatch}
 use Rattle.batch_book.specs.declared.reply.Reply.{Reply}
-use Rattle.batch_book.specs.History.{BookView, IsGrown, IsReplay}
-use Rattle.batch_book.specs.Machine.{Machine, batch_of, opened, IsMachineStep}
+use Rattle.batch_book.specs.History.{BookView, IsGrown}
+use Rattle.batch_book.specs.Machine.{Machine, batch_of, opened}
 use Rattle.batch_book.specs.Told.{told}
 use Rattle.book_record.specs.RecordText.{id_of, call_text, reply_text, entry_lines, texts, CanSay}
 use Rattle.book_record.specs.RecordText.{CanBeReplied, CanTell}
 use Rattle.book_record.specs.Fronts.{IsDamaged, IsSummed, IsTorn, end_line, last_lines}
 use Rattle.book_record.specs.Reading.{BeginsWithNoEntry}
 use Rattle.book_record.specs.Sums.{sum_at, sum_line}
+use Rattle.record_replay.specs.Steps.{AreSeenSteps, IsSeenStep}
 use Rattle.record_replay.specs.declared.fault.EntryFault.{EntryFault}
 use Rattle.record_replay.specs.declared.fault.EntryFault.TheVariants as entry_fault
 use Rattle.record_replay.specs.declared.replaying.Next.{Next}
@@ -59,7 +60,7 @@ pub record IsOtherReply (limit : ℕ) (m : Machine) (body replied due : List ℕ
   pub below : session < limit
   pub can_say : CanSay (told call)
   pub can_reply : CanBeReplied reply
-  pub step : IsMachineStep m session call reply next
+  pub step : IsSeenStep m session call reply next
   pub asks : body ≡ number session space ++ (call_text (told call) ++ replied)
   pub due_is : due ≡ reply_text (id_of (told call)) reply
   pub differs : replied ≢ due
@@ -73,14 +74,14 @@ IsEntryFault limit m body entry_fault.NoMemory = Unit {0}
 
 -- ---- the entries of a record
 
--- it begins with these entries of sessions below this, which are legal from this store and lead to
--- this machine, and goes on with the rest
+-- it begins with these entries of sessions below this, which lead from this store to this machine,
+-- and goes on with the rest
 pub record IsReplayed (limit : ℕ) (text : List ℕ) (opening : Store) (es : List Entry)
     (end : Machine) (rest : List ℕ) : Type 0 where
   pub front : text ≡ texts 0 es ++ rest
   pub each : All CanTell es
   pub sessions : All (λ e. e.session < limit) es
-  pub replay : IsReplay (opened opening) es end
+  pub steps : AreSeenSteps (opened opening) es end
 
 -- n entries are fewer than are wanted, where these are limited
 abbrev pub AreFewer : ℕ → Option ℕ → Type 0

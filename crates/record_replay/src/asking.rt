@@ -7,6 +7,7 @@ ghost use Rattle.batch_book.specs.Machine.{batch_of};
 ghost use Rattle.batch_book.specs.Told.{told};
 ghost use Rattle.book_record.specs.RecordText.{CanBeReplied};
 ghost use Rattle.record_replay.specs.Replays.{IsPlanFor, HasOwnPlanIn};
+ghost use Rattle.record_replay.specs.Steps.{IsSeenStep};
 
 use batch::Batch;
 use batch_book::{Book, BookRefusal, Call, NullHistory, RecordedCall, Reply};
@@ -88,6 +89,8 @@ pub(crate) fn ask<R: Threads + Sync>(
 ) -> Result<Reply, AllocError>
     requires own { HasOwnPlanIn book.old.machine session call }
     ensures grown { IfOk result (λ reply. IsGrown book.old session call reply book.new) }
+    ensures step { IfOk result (λ reply.
+        IsSeenStep book.old.machine session call reply book.new.machine) }
     ensures can { IfOk result CanBeReplied }
     ensures answers { IfOk result (IsReplyTo call) }
     ensures opening { book.new.opening ≡ book.old.opening }

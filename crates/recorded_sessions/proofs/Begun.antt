@@ -34,13 +34,13 @@ cut_from n held front kept cut is off =
 
 -- what stays of it is what the record tells of the book
 pub resumed_front : (limit : ℕ) (held head : List ℕ) (opening : Store) (names : List (List ℕ)) (was : BookView) (kept : ℕ) (made : List ℕ)
-    → head ≡ head_for opening names → (r : IsResumed limit held head opening was) → kept ≡ length held - length r.rest → made ≡ [] → take kept held ++ made
-    ≡ record_front names was
-resumed_front limit held head opening names was kept made head_is r kept_is none =
+    → head ≡ head_for opening names → was.opening ≡ opening → (r : IsResumed limit held head opening was.history) → kept ≡ length held - length r.rest
+    → made ≡ [] → take kept held ++ made ≡ record_front names was
+resumed_front limit held head opening names was kept made head_is on r kept_is none =
     let entries = texts 0 was.history in
     let whole : held ≡ (head ++ entries) ++ r.rest = r.held_is ∙ ap (λ (x : List ℕ). head ++ x) r.remade.replayed.front
     ∙ sym (append_assoc head entries r.rest) in
     let count : kept ≡ length (head ++ entries) = omega (arith, kept_is, ap length whole, length-append (head ++ entries) r.rest) in
     let cut : take kept held ≡ head ++ entries = ap (take kept) whole ∙ take_at (head ++ entries) r.rest kept (sym count) in
     ap (λ (x : List ℕ). take kept held ++ x) none ∙ append-nil (take kept held) ∙ cut ∙ ap (λ (x : List ℕ). x ++ entries) head_is
-    ∙ ap (λ (o : Store). head_for o names ++ entries) (sym r.is_opening)
+    ∙ ap (λ (o : Store). head_for o names ++ entries) (sym on)

@@ -22,7 +22,7 @@ use Rattle.session_answers.specs.Histories.{HaveOneHistory}
 use Rattle.session_answers.specs.HostAnswers.{KnownClients}
 use Rattle.session_answers.specs.declared.ended_session.Ending.{Ending}
 use Rattle.recorded_sessions.specs.Live.{HasFront, IsHostOver, IsFinishedBook, IsFinishedBookAt, IsOverFrom, IsReady, IsTalkOver}
-use Rattle.recorded_sessions.specs.Records.{BeginsFor, IsAsBegun, IsSoFar, record_front}
+use Rattle.recorded_sessions.specs.Records.{BeginsWith, IsAsBegun, IsSoFar, record_front}
 use Rattle.named_files.specs.Outputs.{IsLeftOfAny}
 use Rattle.named_files.specs.Streams.{Closed, written_at, written_to}
 use Rattle.recorded_sessions.specs.declared.live.FinishedSessions.{FinishedSessions}
@@ -98,7 +98,7 @@ so_far {F} contents names was left over is = so_far_in contents over.stream over
 -- a record whose sessions don't begin
 pub as_begun : {F C : Type 0} (holds : List ℕ → List ℕ → Type 0) (contents : F → Option (List ℕ)) (received : C → Closed) (record_out : Option RecordFile)
     (opening : Store) (names : List Text) (was left : BookView) (stream : Option F) (receipt : Option C)
-    → left.history ≡ was.history → BeginsFor holds record_out opening names was → is_some stream ≡ is_some record_out
+    → left.history ≡ was.history → BeginsWith holds record_out opening names was → is_some stream ≡ is_some record_out
     → IfSome stream (λ file. IsStreamed (Some (record_front names was)) (written_at contents (option_map (λ (r : RecordFile). r.name) record_out) file)
     was.history left.durable left.history left.whole)
     → IsLeftOfAny contents received stream receipt → IsAsBegun holds received record_out names receipt
@@ -107,12 +107,12 @@ as_begun {F} {C} holds contents received record_out opening names was left None 
 as_begun holds contents received record_out opening names was left (Some file) None none begins has text left_is = absurd left_is
 as_begun holds contents received None opening names was left (Some file) (Some r) none begins has text left_is = absurd (let bad : true ≡ false = has in cc)
 as_begun holds contents received (Some out) opening names was left (Some file) (Some r) none begins has text left_is = (
-  begins.0,
+  begins.0.0,
   record_front names was,
-  begins.1,
+  begins.0.1,
   left_is out.name (record_front names was)
       (unasked_at names was left (written_to out.name (contents file)) text none),
-  inr (opening, was, begins.2, inr refl),
+  inr (opening, was.history, begins.0.2, inr (ap (λ (o : Store). record_of names o was.history) begins.1.0)),
 )
 
 -- Sessions over a book whose record's stream has a name.

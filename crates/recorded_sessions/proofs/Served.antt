@@ -14,7 +14,7 @@ use Rattle.named_files.specs.Clients.{ends_of}
 use Rattle.recorded_sessions.specs.Live.{IsHostOver, IsLived, IsTalkOver, IsUnserved, left_by}
 use Rattle.recorded_sessions.specs.Outcomes.{IsToldBy}
 use Rattle.recorded_sessions.specs.Keeping.{AreLiveKept}
-use Rattle.recorded_sessions.specs.Records.{BeginsFor, IsCutFromRecord}
+use Rattle.recorded_sessions.specs.Records.{BeginsWith, IsCutFromRecord}
 use Rattle.named_files.specs.Streams.{Closed}
 use Rattle.recorded_sessions.specs.Answers.{Sessions, hosting, loses, talking}
 use Rattle.recorded_sessions.specs.declared.job_result.CutEntry.{CutEntry}
@@ -51,7 +51,7 @@ pub record IsEnding (sessions : Printed → Sessions) (none : Type 0) (was left 
 lived_of : {C : Type 0} (holds : List ℕ → List ℕ → Type 0) (received : C → Closed) (shared : SharedRack) (names : List Text) (image : Option (List ℕ))
     (sessions : Printed → Sessions) (none : Type 0) (end : Result Printed Refusal) (was left : BookView) (opening : Store) (r : Result JobResult JobFailure)
     (receipts : Receipts C) (lost : WriteFailures) (cut : Option CutEntry)
-    → IsRackOf shared.shape image opening → BeginsFor holds shared.record_out opening names was → IsToldBy end r → AreLiveKept holds received shared names
+    → IsRackOf shared.shape image opening → BeginsWith holds shared.record_out opening names was → IsToldBy end r → AreLiveKept holds received shared names
     (left_by end left) receipts lost → IsEnding sessions none was left end → IsCutFromRecord holds shared.record_out names was cut
     → IsLived holds received shared names image sessions none (record { end = r; receipts = receipts; lost = lost; cut = cut })
 lived_of holds received shared names image sessions none (Ok p) was left opening (Ok found) receipts lost cut rack begins told keeps ending cut_is =
@@ -75,7 +75,7 @@ lived_of holds received shared names image sessions none (Err why) was left open
 
 pub lived : {C : Type 0} (holds : List ℕ → List ℕ → Type 0) (received : C → Closed) (shared : SharedRack) (names : List Text) (image : Option (List ℕ))
     (sessions : Printed → Sessions) (none : Type 0) (end : Result Printed Refusal) (was left : BookView) (opening : Store) (kept : SessionsResult C)
-    → IsRackOf shared.shape image opening → BeginsFor holds shared.record_out opening names was → IsToldBy end kept.end
+    → IsRackOf shared.shape image opening → BeginsWith holds shared.record_out opening names was → IsToldBy end kept.end
     → AreLiveKept holds received shared names (left_by end left) kept.receipts kept.lost → IsEnding sessions none was left end
     → IsCutFromRecord holds shared.record_out names was kept.cut → IsLived holds received shared names image sessions none kept
 lived holds received shared names image sessions none end was left opening kept = lived_of holds received shared names image sessions none end was left opening

@@ -10,7 +10,7 @@ use Rattle.module_memory.specs.Store.{Store}
 use Rattle.batch_book.specs.History.{BookView, new_book_view}
 use Rattle.plan_answers.specs.Refusals.{Refuses}
 use Rattle.book_record.proofs.Fronts.{nil_left}
-use Rattle.book_record.specs.Heads.{session_limit}
+use Rattle.book_record.specs.Heads.{record_of, session_limit}
 use Rattle.book_record.specs.Sums.{numbered}
 use Rattle.rack_answers.specs.Openings.{IsRackOf, IsWrongRack}
 use Rattle.refusals.specs.declared.refusal.Refusal.{Refusal}
@@ -22,7 +22,7 @@ use Rattle.recorded_sessions.specs.Live.{HasFront, IsReady, IsStarted, IsStartFa
 use Rattle.named_files.specs.Notes.{IsRefused}
 use Rattle.recorded_sessions.specs.Outcomes.{IsToldOf, IsStartError, IsUnbegunFor}
 use Rattle.named_files.specs.Outputs.{IsLeftOfAny, IsOpened}
-use Rattle.recorded_sessions.specs.Records.{BeginsAs, IsAsBegun, IsRecordStart, IsCutFrom, head_for, record_front}
+use Rattle.recorded_sessions.specs.Records.{BeginsAs, IsAsBegun, IsBookOn, IsRecordStart, IsCutFrom, head_for, record_front}
 use Rattle.named_files.specs.Streams.{Closed, closed, written_at, written_to}
 use Rattle.recorded_sessions.specs.Answers.{IsWrongStart}
 use Rattle.recorded_sessions.specs.declared.job_result.JobResult.{JobResult}
@@ -59,35 +59,40 @@ uncut (Err e) old new held kept head same = λ name is. (held, ap (written_to na
 
 -- what stands where the head couldn't be written whole
 front_begun : (resumes : Bool) (rack : Store) (names : List Text) (was : BookView) (held head text front rest : List ℕ) (kept : ℕ)
-    → BeginsAs resumes held rack names was → take kept held ++ head ≡ record_front names was → ((kept ≡ 0) × (was ≡ new_book_view rack)) ⊎ (head ≡ []) → head
-    ≡ front ++ rest → text ≡ take kept held ++ front → IsRecordStart resumes held names text
-front_begun resumes rack names was held head text front rest kept begins is (inl new) parts said =
+    → was.opening ≡ rack → BeginsAs resumes held rack names was.history → take kept held ++ head ≡ record_front names was
+    → ((kept ≡ 0) × (was ≡ new_book_view rack)) ⊎ (head ≡ []) → head ≡ front ++ rest → text ≡ take kept held ++ front → IsRecordStart resumes held names text
+front_begun resumes rack names was held head text front rest kept on begins is (inl new) parts said =
     let none : take kept held ≡ [] = ap (λ (n : ℕ). take n held) new.0 in
     let new_front : record_front names was ≡ head_for rack names = ap (record_front names) new.1 ∙ append-nil (head_for rack names) in
     let whole : head ≡ head_for rack names = sym (ap (λ (x : List ℕ). x ++ head) none) ∙ is ∙ new_front in
     let text_is : text ≡ front = said ∙ ap (λ (x : List ℕ). x ++ front) none in
-    (rack, was, begins, inl (rest, new.1, sym whole ∙ parts ∙ ap (λ (x : List ℕ). x ++ rest) (sym text_is)))
-front_begun resumes rack names was held head text front rest kept begins is (inr none) parts said =
+    (rack, was.history, begins, inl (rest, ap (λ (a : BookView). a.history) new.1, sym whole ∙ parts ∙ ap (λ (x : List ℕ). x ++ rest) (sym text_is)))
+front_begun resumes rack names was held head text front rest kept on begins is (inr none) parts said =
     let nothing : front ≡ [] = nil_left front rest (sym none ∙ parts) in
-    let kept_is : take kept held ≡ record_front names was = sym (append-nil (take kept held)) ∙ ap (λ (x : List ℕ). take kept held ++ x) (sym none) ∙ is in
-    (rack, was, begins, inr (said ∙ ap (λ (x : List ℕ). take kept held ++ x) nothing ∙ append-nil (take kept held) ∙ kept_is))
+    let kept_is : take kept held ≡ record_front names was = sym (append-nil (take kept held)) ∙ ap (λ (x : List ℕ). take kept held ++ x) (sym none) ∙ is in (
+      rack,
+      was.history,
+      begins,
+      inr (said ∙ ap (λ (x : List ℕ). take kept held ++ x) nothing ∙ append-nil (take kept held) ∙ kept_is
+          ∙ ap (λ (o : Store). record_of names o was.history) on),
+    )
 
 -- how a file is left that couldn't begin
 pub unstarted_file : {F C : Type 0} (contents : F → Option (List ℕ)) (received : C → Closed) (name : Text) (resumes : Bool) (rack : Store) (names : List Text)
     (was : BookView) (held lent head said : List ℕ) (kept : ℕ) (file : F) (receipt : Option C)
-    → lent ≡ held → said ≡ head → BeginsAs resumes held rack names was → take kept held ++ head ≡ record_front names was
+    → lent ≡ held → said ≡ head → was.opening ≡ rack → BeginsAs resumes held rack names was.history → take kept held ++ head ≡ record_front names was
     → ((kept ≡ 0) × (was ≡ new_book_view rack)) ⊎ (head ≡ [])
     → ((text : List ℕ) × (written_to name (contents file) ≡ Some text)
     × ((text ≡ lent) ⊎ ((front rest : List ℕ) × (said ≡ front ++ rest) × (text ≡ take kept lent ++ front))))
     → IsLeftOfAny contents received (Some file) receipt → IfSome receipt (λ r. (text : List ℕ) × (received r ≡ closed name (Some text) false)
     × ((text ≡ held) ⊎ IsRecordStart resumes held names text))
-unstarted_file contents received name resumes rack names was held lent head said kept file None same is begins front new t left = tt
-unstarted_file contents received name resumes rack names was held lent head said kept file (Some r) same is begins front new t left = (
+unstarted_file contents received name resumes rack names was held lent head said kept file None same is on begins front new t left = tt
+unstarted_file contents received name resumes rack names was held lent head said kept file (Some r) same is on begins front new t left = (
   t.0,
   left name t.0 t.1,
   elim t.2 [
     | inl all ↦ inl (all ∙ same)
-    | inr part ↦ inr (front_begun resumes rack names was held head t.0 part.0 part.1 kept begins front new (sym is ∙ part.2)
+    | inr part ↦ inr (front_begun resumes rack names was held head t.0 part.0 part.1 kept on begins front new (sym is ∙ part.2)
         (part.3 ∙ ap (λ (x : List ℕ). take kept x ++ part.0) same))
   ],
 )
@@ -104,8 +109,8 @@ unbegun_file contents received name resumes names held file (Some r) is left = (
 pub started_in : {F U : Type 0} (r : Result (SessionsStart F) U) (holds : List ℕ → List ℕ → Type 0) (contents : F → Option (List ℕ))
     (record_out : Option RecordFile) (rack : Store) (names : List Text) (resumes : Bool) (out : NamedOutput F)
     → IsOpened contents holds (option_map (λ (o : RecordFile). o.name) record_out) (Some out) → IfSome record_out (λ o. resumes ≡ o.resumes)
-    → IfOk r (λ start. BeginsAs resumes out.held.items rack names start.book × IsReady start.book × (is_some start.stream ≡ true)
-    × HasFront (written_at contents (Some out.name.now)) names start.book start.stream)
+    → IfOk r (λ start. BeginsAs resumes out.held.items rack names start.book.history × IsBookOn rack start.book × IsReady start.book
+    × (is_some start.stream ≡ true) × HasFront (written_at contents (Some out.name.now)) names start.book start.stream)
     → IfOk r (λ start. IsCutFrom (length start.book.history) out.held.items (record_front names start.book) start.cut)
     → IfOk r (λ start. start.entries ≡ numbered (length start.book.history))
     → IfOk r (IsStarted holds (written_at contents (option_map (λ (o : RecordFile). o.name) record_out)) record_out rack names)
@@ -115,13 +120,16 @@ started_in (Ok start) holds contents (Some file) rack names resumes out opened r
     let name : out.name.now ≡ file.name = (let e : Some file.name ≡ Some out.name.now = opened.0 in cc) in
     record {
       begins = (
-        out.held.items,
-        subst (λ (n : Text). holds n out.held.items) name opened.1,
-        subst (λ (b : Bool). BeginsAs b out.held.items rack names start.book) resume is.0,
+        (
+          out.held.items,
+          subst (λ (n : Text). holds n out.held.items) name opened.1,
+          subst (λ (b : Bool). BeginsAs b out.held.items rack names start.book.history) resume is.0,
+        ),
+        is.1,
       );
-      ready = is.1;
-      stream = is.2;
-      front = subst (λ (n : Text). HasFront (written_at contents (Some n)) names start.book start.stream) name is.3;
+      ready = is.2;
+      stream = is.3;
+      front = subst (λ (n : Text). HasFront (written_at contents (Some n)) names start.book start.stream) name is.4;
       entries = counted;
       cut = (out.held.items, subst (λ (n : Text). holds n out.held.items) name opened.1, cut);
     }
@@ -175,7 +183,7 @@ pub started_none : {F : Type 0} (holds : List ℕ → List ℕ → Type 0) (cont
 started_none holds contents (Some file) rack names book none is = absurd (let bad : None ≡ Some file.name = none in cc)
 started_none holds contents None rack names book none is =
     record {
-      begins = is;
+      begins = (ap (λ (a : BookView). a.history) is, subst (IsBookOn rack) (sym is) (refl, refl));
       ready = new_ready rack book is;
       stream = refl;
       front = tt;

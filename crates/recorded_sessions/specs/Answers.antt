@@ -13,7 +13,7 @@ use Rattle.command_words.specs.declared.jobs.SharedRack.{SharedRack}
 use Rattle.refusals.specs.declared.refusal.Refusal.{Refusal}
 use Rattle.refusals.specs.declared.refusal.Refusal.TheVariants as refusal
 use Rattle.named_files.specs.Contents.{Holding}
-use Rattle.recorded_sessions.specs.Records.{BeginsFor, IsWrongFor}
+use Rattle.recorded_sessions.specs.Records.{BeginsWith, IsWrongFor}
 
 -- how sessions go on from one book to another, what is so where none begins, and why none may where
 -- rack and record are right
@@ -40,7 +40,7 @@ IsLiveAnswer holds rack names image sessions end None =
     ⊎ ((opening : Store) × IsRackOf rack.shape image opening × sessions.may_refuse refusal)))
 IsLiveAnswer holds rack names image sessions end (Some book) =
     (opening : Store) × IsRackOf rack.shape image opening
-    × (was : BookView) × BeginsFor holds rack.record_out opening names was
+    × (was : BookView) × BeginsWith holds rack.record_out opening names was
     × sessions.served was book
 
 -- an entry of such a record may be lost

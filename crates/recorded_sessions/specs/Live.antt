@@ -22,7 +22,7 @@ use Rattle.recorded_sessions.specs.Answers.{IsLiveAnswer, IsWrongStart, Sessions
 use Rattle.recorded_sessions.specs.Outcomes.{IsUnbegunFor}
 use Rattle.recorded_sessions.specs.Keeping.{AreLiveKept}
 use Rattle.named_files.specs.Outputs.{no_write_failures}
-use Rattle.recorded_sessions.specs.Records.{BeginsFor, IsAsBegun, IsCutFromRecord, record_front}
+use Rattle.recorded_sessions.specs.Records.{BeginsWith, IsAsBegun, IsCutFromRecord, record_front}
 use Rattle.named_files.specs.Streams.{Closed}
 use Rattle.recorded_sessions.specs.declared.job_result.CutEntry.{CutEntry}
 use Rattle.recorded_sessions.specs.declared.live.SessionsResult.{SessionsResult}
@@ -46,7 +46,7 @@ pub record IsReady (book : BookView) : Type 0 where
 pub record IsStarted {F : Type 0} (holds : Holding) (contents : F → Option (List ℕ))
     (record_out : Option RecordFile) (opening : Store) (names : List Text)
     (start : SessionsStart F) : Type 0 where
-  pub begins : BeginsFor holds record_out opening names start.book
+  pub begins : BeginsWith holds record_out opening names start.book
   pub ready : IsReady start.book
   pub stream : is_some start.stream ≡ is_some record_out
   pub front : HasFront contents names start.book start.stream
@@ -123,7 +123,7 @@ abbrev pub IsCutTold : Holding → Option RecordFile → List Text → Option Bo
     → Type 0
 IsCutTold holds record_out names None cut = Unit {0}
 IsCutTold holds record_out names (Some left) cut =
-    (opening : Store) × (was : BookView) × BeginsFor holds record_out opening names was
+    (opening : Store) × (was : BookView) × BeginsWith holds record_out opening names was
     × IsCutFromRecord holds record_out names was cut
 
 -- What is left of sessions, from their beginning to what is told of them: they have ended and were

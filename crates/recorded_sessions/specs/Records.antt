@@ -6,7 +6,9 @@ use Rattle.clap.specs.Words.{Text}
 use Rattle.batch.specs.Text.{line_feed}
 use Rattle.module_memory.specs.Images.{image_of}
 use Rattle.module_memory.specs.Store.{Store}
-use Rattle.batch_book.specs.History.{BookView, new_book_view}
+use Rattle.batch_book.specs.declared.entry.Entry.{Entry}
+use Rattle.batch_book.specs.History.{BookView, IsReplay}
+use Rattle.batch_book.specs.Machine.{Machine, opened}
 use Rattle.book_record.specs.Fronts.{last_lines}
 use Rattle.book_record.specs.Heads.{head_of, record_of, session_limit}
 use Rattle.book_record.specs.Sums.{adler}
@@ -27,24 +29,23 @@ head_for opening names = head_of opening.shape (adler (image_of opening)) names
 abbrev pub record_front : List Text → BookView → List ℕ
 record_front names book = record_of names book.opening book.history
 
--- the head stands there, and the entries after it, of sessions below this, were made again
-pub record IsResumed (limit : ℕ) (held head : List ℕ) (opening : Store)
-    (was : BookView) : Type 0 where
+-- the head stands there, and these entries after it, of sessions below this, were made again
+pub record IsResumed (limit : ℕ) (held head : List ℕ) (opening : Store) (es : List Entry)
+    : Type 0 where
   pub text : List ℕ
+  pub left : Machine
   pub rest : List ℕ
   pub held_is : held ≡ head ++ text
-  pub is_opening : was.opening ≡ opening
-  pub remade : IsRemade limit text opening None was.history was.machine rest
+  pub remade : IsRemade limit text opening None es left rest
 
 -- The file holds as much of the head as may have been written, or all of it: sessions begin anew.
 -- Else, where they are to go on, the head of the same rack and the same clients stands there, and
 -- the entries after it were made again.
-abbrev pub BeginsAs : Bool → List ℕ → Store → List Text → BookView → Type 0
-BeginsAs resumes held opening names was =
-    ((missing : List ℕ) × (head_for opening names ≡ held ++ missing)
-    × (was ≡ new_book_view opening))
+abbrev pub BeginsAs : Bool → List ℕ → Store → List Text → List Entry → Type 0
+BeginsAs resumes held opening names es =
+    ((missing : List ℕ) × (head_for opening names ≡ held ++ missing) × (es ≡ []))
     ⊎ ((resumes ≡ true)
-    × IsResumed (session_limit (length names)) held (head_for opening names) opening was)
+    × IsResumed (session_limit (length names)) held (head_for opening names) opening es)
 
 -- What is told of a rest that was cut off after this front of a record, which has so many entries:
 -- how many bytes it had, and the line with which it began, counted from 1. Of the last lines
@@ -71,11 +72,21 @@ IsCutFromRecord holds (Some out) names was cut =
     (held : List ℕ) × holds out.name held
     × IsCutFrom (length was.history) held (record_front names was) cut
 
--- the book with which sessions begin, where their record goes to this file, or to none
-abbrev pub BeginsFor : Holding → Option RecordFile → Store → List Text → BookView → Type 0
-BeginsFor holds None opening names was = was ≡ new_book_view opening
-BeginsFor holds (Some out) opening names was =
-    (held : List ℕ) × holds out.name held × BeginsAs out.resumes held opening names was
+-- the entries with which sessions begin, where their record goes to this file, or to none
+abbrev pub BeginsFor : Holding → Option RecordFile → Store → List Text → List Entry → Type 0
+BeginsFor holds None opening names es = es ≡ []
+BeginsFor holds (Some out) opening names es =
+    (held : List ℕ) × holds out.name held × BeginsAs out.resumes held opening names es
+
+-- the book was opened with these words, and its history leads to its machine
+abbrev pub IsBookOn : Store → BookView → Type 0
+IsBookOn opening was =
+    (was.opening ≡ opening) × IsReplay (opened was.opening) was.history was.machine
+
+-- the book has just the entries with which sessions begin
+abbrev pub BeginsWith : Holding → Option RecordFile → Store → List Text → BookView → Type 0
+BeginsWith holds record_out opening names was =
+    BeginsFor holds record_out opening names was.history × IsBookOn opening was
 
 -- two texts begin with the same bytes, so many, and then one has another, or has ended
 abbrev pub IsCommonFront : List ℕ → List ℕ → ℕ → Type 0
@@ -98,14 +109,13 @@ IsWrongFor holds (Some out) opening names fault =
     (out.resumes ≡ true) × (held : List ℕ) × holds out.name held
     × IsWrongRecord (session_limit (length names)) held (head_for opening names) opening fault
 
--- What a record's file that held this has where nothing was asked: of a new book a front of the
--- head; or what the record tells of the book with which sessions began, and nothing else.
+-- What a record's file that held this has where nothing was asked: of no entry a front of the
+-- head; or what the record tells of the entries with which sessions began, and nothing else.
 abbrev pub IsRecordStart : Bool → List ℕ → List Text → List ℕ → Type 0
 IsRecordStart resumes held names text =
-    (opening : Store) × (was : BookView) × BeginsAs resumes held opening names was
-    × (((missing : List ℕ) × (was ≡ new_book_view opening)
-    × (head_for opening names ≡ text ++ missing))
-    ⊎ (text ≡ record_front names was))
+    (opening : Store) × (es : List Entry) × BeginsAs resumes held opening names es
+    × (((missing : List ℕ) × (es ≡ []) × (head_for opening names ≡ text ++ missing))
+    ⊎ (text ≡ record_of names opening es))
 
 -- The file of the record, if it was opened, holds what it held, or has begun so; and no other file
 -- was opened.

@@ -23,8 +23,8 @@ ghost use Rattle.recorded_sessions.specs.Outcomes.{IsToldBy, IsToldOf, IsStartEr
 ghost use Rattle.recorded_sessions.specs.Keeping.{AreLiveKept, AreWritten, HasGrown};
 ghost use Rattle.named_files.specs.Outputs.{AreNamed, AreOpened, IsFileWritten, IsLeftOfAny};
 ghost use Rattle.named_files.specs.Outputs.{IsOpened, IsUnput, is_new, name_of};
-ghost use Rattle.recorded_sessions.specs.Records.{BeginsAs, BeginsFor, IsRecordStart, IsCutFrom};
-ghost use Rattle.recorded_sessions.specs.Records.{IsSoFar, head_for, record_front};
+ghost use Rattle.recorded_sessions.specs.Records.{BeginsAs, BeginsWith, IsBookOn, IsCutFrom};
+ghost use Rattle.recorded_sessions.specs.Records.{IsRecordStart, IsSoFar, head_for, record_front};
 ghost use Rattle.named_files.specs.Streams.{IsWrittenBy, closed, written_at, written_by};
 ghost use Rattle.named_files.specs.Streams.{written_to};
 
@@ -144,8 +144,8 @@ fn start_in<R: Threads + Sync, S: System>(
     requires number { IsNumber (length names.now) }
     requires contents { written_to out.name.now (S.Stream.contents out.file) ≡ Some out.held.items }
     ensures started { IfOk result (λ start.
-        BeginsAs resumes out.entry.held.items rack names.now start.book
-        × IsReady start.book × (is_some start.stream ≡ true)
+        BeginsAs resumes out.entry.held.items rack names.now start.book.history
+        × IsBookOn rack start.book × IsReady start.book × (is_some start.stream ≡ true)
         × HasFront (written_at S.Stream.contents (Some out.entry.name.now)) names.now start.book
         start.stream) }
     ensures cut { IfOk result (λ start. IsCutFrom (length start.book.history)
@@ -512,7 +512,7 @@ pub(crate) fn finish_live<S: System>(
     ensures told { IsToldBy over.end result.end }
     ensures cut { result.cut ≡ cut }
     ensures kept { (opening : Store) → (names : List Text) → (was : BookView) → (left : BookView)
-        → BeginsFor (S.holds system.now) shared.now.record_out opening names was
+        → BeginsWith (S.holds system.now) shared.now.record_out opening names was
         → IsFinishedBook (written_at S.Stream.contents (recorded_in shared.now)) names was left over
         → OnErr over.end (left.history ≡ was.history)
         → AreLiveKept (S.holds system.now) S.received shared.now names (left_by over.end left)

@@ -10,8 +10,8 @@ ghost use Rattle.record_replay.specs.declared.fault.RecordFault.TheVariants.{Hea
 ghost use Rattle.named_files.specs.Notes.{IsRefused};
 ghost use Rattle.recorded_sessions.specs.Live.{IsReady};
 ghost use Rattle.recorded_sessions.specs.Outcomes.{IsStartError, IsReplayError};
-ghost use Rattle.recorded_sessions.specs.Records.{BeginsAs, IsCommonFront, IsCutFrom, IsCutOf};
-ghost use Rattle.recorded_sessions.specs.Records.{IsResumed, head_for, record_front};
+ghost use Rattle.recorded_sessions.specs.Records.{BeginsAs, IsBookOn, IsCommonFront, IsCutFrom};
+ghost use Rattle.recorded_sessions.specs.Records.{IsCutOf, IsResumed, head_for, record_front};
 
 use crate::job_result::CutEntry;
 use batch_book::{Book, NullHistory};
@@ -163,8 +163,10 @@ fn resume<R: Threads + Sync>(
     limit: usize,
     workers: WorkerCount,
 ) -> Result<(Book<NullHistory>, u64, usize), StartError>
-    ensures resumed { IfOk result (λ r. (resumed : IsResumed limit held.now head.items rack r.0)
+    ensures resumed { IfOk result (λ r.
+        (resumed : IsResumed limit held.now head.items rack r.0.history)
         × (r.2 ≡ length held.now - length resumed.rest)) }
+    ensures on { IfOk result (λ r. IsBookOn rack r.0) }
     ensures entries { IfOk result (λ r. r.1 ≡ numbered (length r.0.history)) }
     ensures whole { IfOk result (λ r. r.0.whole ≡ true) }
     ensures all { IfOk result (λ r. r.0.durable ≡ r.0.history) }
@@ -236,7 +238,8 @@ pub(crate) fn begin<R: Threads + Sync>(
 ) -> Result<RecordStart, StartError>
     requires { IsNumber (length names.now) }
     ensures begins { IfOk result (λ begun.
-        BeginsAs resumes held.now rack names.now begun.book) }
+        BeginsAs resumes held.now rack names.now begun.book.history) }
+    ensures on { IfOk result (λ begun. IsBookOn rack begun.book) }
     ensures kept { IfOk result (λ begun. begun.kept ≤ length held.now) }
     ensures front { IfOk result (λ begun.
         take begun.kept held.now ++ begun.head.items ≡ record_front names.now begun.book) }

@@ -5,9 +5,9 @@ use Rattle.std.specs.Prelude.{Contains}
 use Rattle.std.proofs.lemmas.Bool.{false≢true}
 use Rattle.std.proofs.lemmas.Bool.Decides.{eqb_tells}
 use Rattle.std.proofs.lemmas.Option.{same_Some}
-use Rattle.std.proofs.lemmas.List.{length-append, length-take, length-drop, take-append-drop, get_or_default}
+use Rattle.std.proofs.lemmas.List.{length-append, get_or_default}
 use Rattle.std.proofs.lemmas.List.Elements.{Contains-append_left, Contains-append_right, Contains-append_cases}
-use Rattle.std.proofs.lemmas.List.Sorted.{IsPermutation-refl, IsPermutation-sym, All-permutation, Contains-permutation, sum_by-IsPermutation, length_permutation}
+use Rattle.std.proofs.lemmas.List.Sorted.{IsPermutation-sym, All-permutation, Contains-permutation, sum_by-IsPermutation, length_permutation}
 use Rattle.std.proofs.lemmas.List.Sums.{sum_by-append}
 use Rattle.std.proofs.Math.Nat.{mul_comm}
 use Rattle.batch.specs.declared.limits.TheConstants.{MAX_MODULES}
@@ -44,9 +44,9 @@ single_matching batch part d degree low = matching_from_none_shared batch part
 
 -- ---- the halves
 
-same_degree : (batch : List Transfer) (whole : List ℕ) (d e : ℕ) → IsDegree (members batch whole) d → IsDegree (members batch whole) e → d ≡ e
-same_degree batch whole d e one other =
-    let low : (a b : ℕ) → IsDegree (members batch whole) a → IsDegree (members batch whole) b → a ≤ b =
+pub same_degree : (transfers : List Transfer) (d e : ℕ) → IsDegree transfers d → IsDegree transfers e → d ≡ e
+same_degree transfers d e one other =
+    let low : (a b : ℕ) → IsDegree transfers a → IsDegree transfers b → a ≤ b =
     λ a b x y. elim x.reached [ inl none ↦ omega arith | inr at ↦ omega (arith, at.1, y.most at.0) ] in
     omega (arith, low d e one other, low e d other one)
 
@@ -56,31 +56,6 @@ halves_of_split batch whole left right s = record {
   parts = s.parts;
   left_uses = λ link d degree. omega (arith, s.left_uses link, degree.most link);
   right_uses = λ link d degree. omega (arith, s.right_uses link, degree.most link);
-}
-
--- and so are the front and the back of a part whose degree is its length
-pub halves_in_order : (batch : List Transfer) (whole : List ℕ) (d k : ℕ) → IsDegree (members batch whole) d → d ≡ length whole → k ≡ (d + 1) / 2
-    → AreHalves batch whole (take k whole) (drop k whole)
-halves_in_order batch whole d k degree all is = record {
-  parts = rw take-append-drop (IsPermutation-refl whole);
-  left_uses = λ link e other. omega (
-    arith,
-    is,
-    all,
-    same_degree batch whole d e degree other,
-    uses_few (members batch (take k whole)) link,
-    members_few batch (take k whole),
-    length-take k whole,
-  );
-  right_uses = λ link e other. omega (
-    arith,
-    is,
-    all,
-    same_degree batch whole d e degree other,
-    uses_few (members batch (drop k whole)) link,
-    members_few batch (drop k whole),
-    length-drop k whole,
-  );
 }
 
 one_of : (a b : ℕ) → 0 < a + b → (0 < a) ⊎ (0 < b)

@@ -1,5 +1,5 @@
 -- The part of all transfers.
-use Rattle.std.proofs.Common.{◌≡◌, ℕ, zero, suc, ◌^◌, ◌<◌, ◌≤◌, max, List, [], ◌∷◌, ◌++◌, length, get_or, take, slice_get, Some, All, refl, sym, ap, subst, ◌∙◌, arith, add-one}
+use Rattle.std.proofs.Common.{◌≡◌, ℕ, zero, suc, ◌<◌, ◌≤◌, max, List, [], ◌∷◌, ◌++◌, length, get_or, take, slice_get, Some, All, inr, refl, sym, ap, subst, ◌∙◌, arith, add-one}
 use Rattle.std.specs.Prelude.{Contains}
 use Rattle.std.specs.List.{range_with_len}
 use Rattle.std.proofs.lemmas.List.{take_more, take_all}
@@ -11,7 +11,7 @@ use Rattle.batch.specs.declared.transfer.Transfer.{Transfer}
 use Rattle.link_graph.specs.Marks.{members}
 use Rattle.link_graph.specs.Schedules.{IsScheduleOf}
 use Rattle.link_graph.specs.Uses.{start_link}
-use Rattle.link_graph.proofs.Users.{use_of, use_yes}
+use Rattle.link_graph.proofs.Users.{use_of, use_yes, uses_few}
 use Rattle.link_graph.proofs.Sharing.{some_more}
 use Rattle.batch.specs.Overlap.{no_transfer}
 use Rattle.alternating_path.specs.Colouring.{Colouring, AllPlaced}
@@ -19,8 +19,8 @@ use Rattle.alternating_path.specs.Classes.{ColouredSettings, AreClassesOf}
 use Rattle.schedule_certificate.specs.Reinsertions.{AreFew}
 use Rattle.schedule_certificate.specs.Parts.{IsPart, IsDegree, IsColouredPart}
 use Rattle.schedule_certificate.specs.Plans.{IsColoured}
-use Rattle.schedule_certificate.specs.Steps.{UsesAtMost}
-use Rattle.schedule_certificate.proofs.Levels.{one_at, degree_fits}
+use Rattle.schedule_certificate.specs.Steps.{UsesAtMost, HasCommonLink}
+use Rattle.schedule_certificate.proofs.Levels.{degree_fits}
 
 abbrev all_of : List Transfer → List ℕ
 all_of batch = range_with_len 0 (length batch)
@@ -103,8 +103,12 @@ all_coloured batch table coloured c classes inserted few schedule_if =
     }
 
 -- the table of all transfers has few enough colours
-pub colours_fit : (batch : List Transfer) (table : Colouring) (k : ℕ) → UsesAtMost batch (2 ^ k) → IsColouredPart batch (all_of batch) table
-    → (table.colours ≤ 2 ^ k) × (table.batch ≡ batch)
-colours_fit batch table k low c =
+pub colours_fit : (batch : List Transfer) (table : Colouring) (most : ℕ) → 1 ≤ most → UsesAtMost batch most → IsColouredPart batch (all_of batch) table
+    → (table.colours ≤ most) × (table.batch ≡ batch)
+colours_fit batch table most some low c =
     let degree : IsDegree batch c.degree = subst (λ (xs : List Transfer). IsDegree xs c.degree) (all_members batch) c.is_degree in
-    (omega (arith, c.colours_is, degree_fits batch c.degree (2 ^ k) degree low, one_at k), c.batch_is)
+    (omega (arith, c.colours_is, degree_fits batch c.degree most degree low, some), c.batch_is)
+
+-- where one link is in all, they are the degree
+pub all_share : (batch : List Transfer) → HasCommonLink batch → IsDegree (members batch (all_of batch)) (length (all_of batch))
+all_share batch one = rw (all_members batch, length-range_with_len 0 (length batch)) (record { most = uses_few batch; reached = inr one })

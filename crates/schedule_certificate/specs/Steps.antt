@@ -1,6 +1,6 @@
 -- How many steps a plan may take. A step is one round of a loop that no
 -- constant bounds, or one word that is copied or filled there.
-use Rattle.std.specs.Prelude.{ℕ, ◌+◌, ◌-◌, ◌*◌, ◌^◌, ◌≤◌, List}
+use Rattle.std.specs.Prelude.{◌≡◌, ℕ, ◌+◌, ◌-◌, ◌*◌, ◌^◌, ◌≤◌, List, length}
 use Rattle.batch.specs.declared.limits.TheConstants.{MAX_MODULES}
 use Rattle.batch.specs.declared.transfer.Transfer.{Transfer}
 use Rattle.link_graph.specs.declared.limits.TheConstants.{LINKS}
@@ -21,6 +21,14 @@ most_steps n k = colouring_steps n k + 8 * n + (MAX_MODULES + 1) * 2 ^ k
 -- no link has more uses
 abbrev pub UsesAtMost : List Transfer → ℕ → Type 0
 UsesAtMost batch most = (link : Link) → uses batch link ≤ most
+
+-- one link is in all transfers
+abbrev pub HasCommonLink : List Transfer → Type 0
+HasCommonLink batch = (link : Link) × (uses batch link ≡ length batch)
+
+-- those of a plan of n transfers that share one link: it has one table, and none is joined
+abbrev pub one_link_steps : ℕ → ℕ
+one_link_steps n = 108 * (n + 1)
 
 -- what is known to be the most that the degree may be
 abbrev pub at_most : KnownDegree → ℕ

@@ -2,23 +2,24 @@
 
 ghost use Rattle.std.specs.Prelude.{◌≡◌, ℕ, ◌+◌, ◌*◌, ◌^◌, ◌≤◌, length, IfOk};
 ghost use Rattle.std.specs.Thread.{IsSync};
-ghost use Rattle.schedule_certificate.specs.Parts.{IsPartBy, IsWidth, IsColouredPart};
+ghost use Rattle.link_graph.specs.declared.limits.TheConstants.{LINKS};
+ghost use Rattle.link_graph.specs.Marks.{members};
+ghost use Rattle.schedule_certificate.specs.Parts.{IsPartBy, IsDegree, IsWidth, IsColouredPart};
 ghost use Rattle.schedule_certificate.specs.Steps.{at_most, colouring_steps};
 
 use crate::degree::{KnownDegree, degree_of, half_of};
 use crate::gate::Gate;
-use crate::halving::{colour_alone, halve_part, join_halves};
+use crate::halving::{colour_alone, join_halves};
 use crate::workers::Workers;
 use alternating_path::Table;
-use euler_split::Scratch;
+use euler_split::{Scratch, split_in_place};
 use link_graph::LinkGraph;
 use std::alloc::{AllocError, Global};
 use std::thread::{Threads, join};
 use step_count::Steps;
 
 /// Colours a part as [`colour_alone`] does, with the same contract and the same colours. Two
-/// workers or more colour its halves at once, also where all transfers share one link:
-/// [`halve_part`] says why these get the same colours then.
+/// workers or more colour its halves at once, but where all transfers share one link.
 #[cycle(halves)]
 pub(crate) fn colour_part<'a, R: Threads + Sync, G: Gate>(
     rt: &R,
@@ -40,6 +41,8 @@ pub(crate) fn colour_part<'a, R: Threads + Sync, G: Gate>(
     ensures places { scratch.new ≡ scratch.old }
     ensures cost { (k : ℕ) → at_most known ≤ 2 ^ k
         → steps.new ≤ steps.old + colouring_steps (length part.old) k }
+    ensures shared { IsDegree (members graph.now part.old) (length part.old)
+        → steps.new ≤ steps.old + (LINKS + 3) * length part.old + LINKS }
 {
     if workers.count < 2 {
         return colour_alone(alloc, graph, part, scratch, known, width, room, steps);
@@ -48,7 +51,10 @@ pub(crate) fn colour_part<'a, R: Threads + Sync, G: Gate>(
     if degree <= 1 {
         return Table::one_with_room(alloc, graph, part, room.max(1), steps);
     }
-    let middle = halve_part(graph, part, degree, scratch, steps);
+    if degree == part.len() {
+        return Table::each_with_room(alloc, graph, part, room, steps);
+    }
+    let middle = split_in_place(graph, part, scratch, steps);
     let (left, right) = part.split_at_mut(middle);
     let half = half_of(degree);
     // The halves may have one colour too many.
@@ -140,6 +146,8 @@ pub(crate) fn colour_copy<'a, R: Threads + Sync, G: Gate>(
     ensures coloured { IfOk result (IsColouredPart graph.now part.now) }
     ensures cost { (k : ℕ) → at_most known ≤ 2 ^ k
         → steps.new ≤ steps.old + 2 * length part.now + colouring_steps (length part.now) k }
+    ensures shared { IsDegree (members graph.now part.now) (length part.now)
+        → steps.new ≤ steps.old + (LINKS + 5) * length part.now + LINKS }
 {
     let mut scratch = Scratch::new(alloc, part.len(), steps)?;
     steps.tick_many(part.len());

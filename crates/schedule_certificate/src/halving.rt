@@ -38,31 +38,6 @@ fn put_back(table: &mut Table<'_>, class: &[usize], steps: &mut Steps)
     }
 }
 
-/// Permutes a part so that one of two halves stands in front of the other, and says how many
-/// transfers that has. The uses of each link are halved, but where all transfers share one link,
-/// which is enough for halves of half the degree: these stay in their order, so that they get the
-/// same colours from one worker and from several.
-pub(crate) fn halve_part(
-    graph: &LinkGraph,
-    part: &mut [usize],
-    degree: usize,
-    scratch: &mut Scratch,
-    steps: &mut Steps,
-) -> usize
-    requires part { IsPart graph.now part.old }
-    requires degree { IsDegree (members graph.now part.old) degree }
-    requires places { length part.old ≤ scratch.old }
-    ensures within { result ≤ length part.old }
-    ensures halves { AreHalves graph.now part.old (take result part.new) (drop result part.new) }
-    ensures places { scratch.new ≡ scratch.old }
-    ensures cost { steps.new ≤ steps.old + 4 * length part.old + MAX_MODULES }
-{
-    if degree == part.len() {
-        return degree.div_ceil(2);
-    }
-    split_in_place(graph, part, scratch, steps)
-}
-
 /// The table of a part of this degree, of the tables of its halves. They are joined, and that may
 /// be one colour too many where the degree is odd: then a smallest class is given up, and its
 /// transfers are put into the other colours (Gabow 1976).
@@ -90,19 +65,17 @@ pub(crate) fn join_halves<'a>(
     Ok(table)
 }
 
-/// Halves a part in which not all transfers share one link, as [`halve_part`] does. Where the
-/// transfers of each pair of links can be halved, they are dealt to the halves in turn. That needs
-/// no walk, and gives the same halves as walks.
+/// Permutes a part so that one of two halves stands in front of the other, and says how many
+/// transfers that has. Where the transfers of each pair of links can be halved, they are dealt to
+/// the halves in turn. That needs no walk, and gives the same halves as walks.
 fn halve_known(
     graph: &LinkGraph,
     part: &mut [usize],
-    degree: usize,
     times: usize,
     scratch: &mut Scratch,
     steps: &mut Steps,
 ) -> usize
     requires part { IsPart graph.now part.old }
-    requires degree { IsDegree (members graph.now part.old) degree }
     requires times { CanBeHalved graph.now part.old times }
     requires places { length part.old ≤ scratch.old }
     ensures within { result ≤ length part.old }
@@ -113,7 +86,7 @@ fn halve_known(
     ensures cost { steps.new ≤ steps.old + 4 * length part.old + MAX_MODULES }
 {
     if times == 0 {
-        return halve_part(graph, part, degree, scratch, steps);
+        return split_in_place(graph, part, scratch, steps);
     }
     split_evenly(graph, part, scratch, steps)
 }
@@ -176,6 +149,8 @@ pub(crate) fn colour_alone<'a>(
     ensures places { scratch.new ≡ scratch.old }
     ensures cost { (k : ℕ) → at_most known ≤ 2 ^ k
         → steps.new ≤ steps.old + colouring_steps (length part.old) k }
+    ensures shared { IsDegree (members graph.now part.old) (length part.old)
+        → steps.new ≤ steps.old + (LINKS + 3) * length part.old + LINKS }
 {
     let times = times_of(graph, part, known, steps);
     colour_halves(
@@ -204,6 +179,8 @@ fn colour_halves<'a>(
     ensures places { scratch.new ≡ scratch.old }
     ensures cost { (k : ℕ) → at_most known ≤ 2 ^ k
         → steps.new + length part.old ≤ steps.old + colouring_steps (length part.old) k }
+    ensures shared { IsDegree (members graph.now part.old) (length part.old)
+        → steps.new ≤ steps.old + (LINKS + 2) * length part.old + LINKS }
 {
     let degree = degree_of(graph, part, known, width, steps);
     if degree <= 1 {
@@ -212,7 +189,7 @@ fn colour_halves<'a>(
     if degree == part.len() {
         return Table::each_with_room(alloc, graph, part, room, steps);
     }
-    let middle = halve_known(graph, part, degree, times, scratch, steps);
+    let middle = halve_known(graph, part, times, scratch, steps);
     let (left, right) = part.split_at_mut(middle);
     // The halves may have one colour too many.
     let room = room.max(degree.saturating_add(1));

@@ -9,8 +9,9 @@
 //! (`AreFew` of `specs/Reinsertions.antt`). The type [`Planned`] keeps all this.
 //!
 //! [`schedule_in_steps`] counts the steps of all workers: they are at most `most_steps` of
-//! `specs/Steps.antt`. A step is one round of a loop that no constant bounds, or one word that is
-//! copied or filled there; `tools/steps.txt` names what counts none, with the reason of each.
+//! `specs/Steps.antt`, and `one_link_steps` where one link is in all transfers. A step is one round
+//! of a loop that no constant bounds, or one word that is copied or filled there; `tools/steps.txt`
+//! names what counts none, with the reason of each.
 //!
 //! [`first_fit`] gives a schedule that may be longer than needed: each transfer stands in the first
 //! setting in which no smaller number uses one of its links (`IsFirstFit` of

@@ -9,7 +9,7 @@ use crate::degree::{KnownDegree, width_of};
 use crate::gate::OpenGate;
 use crate::halving::colour_alone;
 use crate::planned::Planned;
-use crate::planning::{all_transfers, degree_of_all, planned_by, schedule};
+use crate::planning::{all_transfers, degree_of_all, planned_by, schedule_in_steps};
 use alternating_path::Coloured;
 use batch::Batch;
 use euler_split::Scratch;
@@ -21,14 +21,22 @@ use step_count::Steps;
 
 /// What plans batches for callers that needn't know whether it has threads.
 pub trait Planner: Sync {
-    /// Plans a batch as [`schedule`](crate::schedule) does with an open gate. So many workers may
-    /// take part, as far as threads can be had.
-    fn plan(&self, alloc: Global, batch: Batch, workers: WorkerCount) -> Result<Planned, AllocError>
+    /// Plans a batch as [`schedule_in_steps`] does with an open gate, and counts the steps of all
+    /// workers. So many may take part, as far as threads can be had.
+    fn plan(
+        &self,
+        alloc: Global,
+        batch: Batch,
+        workers: WorkerCount,
+        steps: &mut Steps,
+    ) -> Result<Planned, AllocError>
         // What `Sync` says, in the form in which the check lets a trait's method ask for it.
         requires { SaysOneToAllThreads Self.row }
         ensures batch { IfOk result (λ planned. planned.batch ≡ batch) }
         ensures plan { IfOk result (λ planned. IsPlan planned) }
-        ensures reinserted { IfOk result (λ planned. HasFewReinsertions planned) };
+        ensures reinserted { IfOk result (λ planned. HasFewReinsertions planned) }
+        ensures cost { (k : ℕ) → UsesAtMost batch (2 ^ k)
+            → steps.new ≤ steps.old + most_steps (length batch) k };
 }
 
 impl<R: Threads + Sync> Planner for R {
@@ -37,8 +45,9 @@ impl<R: Threads + Sync> Planner for R {
         alloc: Global,
         batch: Batch,
         workers: WorkerCount,
+        steps: &mut Steps,
     ) -> Result<Planned, AllocError> {
-        schedule(self, alloc, batch, workers, &OpenGate)
+        schedule_in_steps(self, alloc, batch, workers, &OpenGate, steps)
     }
 }
 
@@ -52,11 +61,11 @@ impl Planner for NoThreads {
         alloc: Global,
         batch: Batch,
         _workers: WorkerCount,
+        steps: &mut Steps,
     ) -> Result<Planned, AllocError> {
-        let mut steps = Steps::none();
-        let graph = LinkGraph::of(&batch)?;
-        let coloured = colour_all_alone(alloc, &graph, &mut steps)?;
-        planned_by(batch, &graph, coloured, &mut steps)
+        let graph = LinkGraph::of_in_steps(&batch, steps)?;
+        let coloured = colour_all_alone(alloc, &graph, steps)?;
+        planned_by(batch, &graph, coloured, steps)
     }
 }
 

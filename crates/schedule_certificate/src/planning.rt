@@ -5,7 +5,8 @@ ghost use Rattle.std.specs.List.{range_with_len};
 ghost use Rattle.schedule_certificate.specs.Parts.{IsDegree};
 ghost use Rattle.schedule_certificate.specs.Plans.{NamesBusiest, IsPlan, IsColoured};
 ghost use Rattle.schedule_certificate.specs.Plans.{HasFewReinsertions};
-ghost use Rattle.schedule_certificate.specs.Steps.{UsesAtMost, most_steps};
+ghost use Rattle.schedule_certificate.specs.Steps.{UsesAtMost, most_steps, HasCommonLink};
+ghost use Rattle.schedule_certificate.specs.Steps.{one_link_steps};
 
 use crate::colouring::colour_copy;
 use crate::degree::{KnownDegree, width_of};
@@ -55,6 +56,8 @@ fn colour_all<R: Threads + Sync, G: Gate>(
     ensures coloured { IfOk result (λ coloured. IsColoured graph.now coloured) }
     ensures cost { (k : ℕ) → UsesAtMost graph.now (2 ^ k)
         → steps.new + 3 * length graph.now ≤ steps.old + most_steps (length graph.now) k }
+    ensures shared { HasCommonLink graph.now
+        → steps.new + 3 * length graph.now ≤ steps.old + one_link_steps (length graph.now) }
 {
     let all = all_transfers(alloc, graph, steps)?;
     let degree = KnownDegree::Is(degree_of_all(graph));
@@ -107,7 +110,8 @@ pub(crate) fn planned_by(
 /// The workers are numbered from 1. Two halves are coloured at once where two workers or more may
 /// do it, as far as threads can be had: the first half of their numbers, rounded up, goes to the
 /// one half and the others to the other. Each half first lets the least of its numbers arrive at
-/// the gate. One worker alone never does. The batch is dropped where there is no memory.
+/// the gate. One worker alone never does, and nobody halves transfers that share one link. The
+/// batch is dropped where there is no memory.
 pub fn schedule<R: Threads + Sync, G: Gate>(
     rt: &R,
     alloc: Global,
@@ -136,6 +140,8 @@ pub fn schedule_in_steps<R: Threads + Sync, G: Gate>(
     ensures reinserted { IfOk result (λ planned. HasFewReinsertions planned) }
     ensures cost { (k : ℕ) → UsesAtMost batch (2 ^ k)
         → steps.new ≤ steps.old + most_steps (length batch) k }
+    ensures shared { HasCommonLink batch
+        → steps.new ≤ steps.old + one_link_steps (length batch) }
 {
     let graph = LinkGraph::of_in_steps(&batch, steps)?;
     let coloured = colour_all(rt, gate, Workers::all(workers), alloc, &graph, steps)?;

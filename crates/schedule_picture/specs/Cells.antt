@@ -1,7 +1,7 @@
 -- The cells of a picture. A transfer that is shown has two, in the column of its setting: one in
 -- the row of its initiator, in the half of link 0, and one in the row of its responder, in the half
 -- of link 3. Each has the number and the colour of the module at the other end.
-use Rattle.std.specs.Prelude.{ℕ, ◌+◌, ◌-◌, List, ◌++◌, codes}
+use Rattle.std.specs.Prelude.{ℕ, ◌+◌, List, ◌++◌, codes}
 use Rattle.std.specs.Fmt.{decimal}
 use Rattle.std.specs.List.{flat_map}
 use Rattle.batch.specs.declared.transfer.Kind.{Kind}
@@ -13,9 +13,10 @@ use Rattle.link_graph.specs.declared.link.End.TheVariants.{Zero, Three}
 use Rattle.link_graph.specs.Links.{other_end}
 use Rattle.link_graph.specs.ScheduleText.{end_number}
 use Rattle.link_graph.specs.Counts.{module_at}
-use Rattle.schedule_picture.specs.declared.layout.TheConstants.{ROWS_TOP, INSET, CELL_WIDTH}
+use Rattle.schedule_picture.specs.declared.layout.TheConstants.{INSET, CELL_WIDTH}
 use Rattle.schedule_picture.specs.declared.layout.TheConstants.{CELL_HEIGHT}
-use Rattle.schedule_picture.specs.Places.{row_place, half_place, column_place}
+use Rattle.schedule_picture.specs.Places.{panel_of, panel_place, row_place, half_place}
+use Rattle.schedule_picture.specs.Places.{column_place}
 use Rattle.schedule_picture.specs.Elements.{coloured_box, text_start}
 
 abbrev pub kind_label : Kind → List ℕ
@@ -54,28 +55,35 @@ arrow_of Push Three = from_partner
 arrow_of Pull Zero = from_partner
 arrow_of Pull Three = to_partner
 
--- where the half of a row stands that is for an end of a transfer, from the top
-abbrev pub half_top : List Transfer → Transfer → End → ℕ
-half_top batch x end = row_place batch (module_at end x) + half_place end
+-- where the half of a row stands that is for an end of a transfer in column j, from the top
+abbrev pub half_top : List Transfer → ℕ → Transfer → End → ℕ
+half_top batch j x end = row_place batch (panel_of j) (module_at end x) + half_place end
 
 -- where the cells of column j begin, from the left
 abbrev pub cell_left : ℕ → ℕ
 cell_left j = column_place j + INSET
 
--- where the cell at an end of a transfer begins, from the top
-abbrev pub cell_top : List Transfer → Transfer → End → ℕ
-cell_top batch x end = half_top batch x end + INSET
+-- where the cell at an end of a transfer in column j begins, from the top
+abbrev pub cell_top : List Transfer → ℕ → Transfer → End → ℕ
+cell_top batch j x end = half_top batch j x end + INSET
 
 -- the module at the other end
 abbrev pub partner_of : Transfer → End → ℕ
 partner_of x end = module_at (other_end end) x
 
+-- the number of a transfer, below the other module's in its cell
+unfoldable pub number_text : ℕ → ℕ → ℕ → List ℕ
+number_text left top t =
+    codes "<text class='transfer' x='" ++ decimal left ++ codes "' y='" ++ decimal top
+    ++ codes "'>" ++ decimal t ++ codes "</text></g>\n"
+
 -- the cell at an end of transfer t, in column j
 unfoldable pub cell_text : List Transfer → ℕ → ℕ → Transfer → End → List ℕ
 cell_text batch j t x end = title_text t x
-    ++ coloured_box (partner_of x end) (cell_left j) (cell_top batch x end) CELL_WIDTH CELL_HEIGHT
-    ++ text_start (column_place j + 16) (half_top batch x end + 14) ++ arrow_of x.kind end
-    ++ decimal (partner_of x end) ++ codes "</text></g>\n"
+    ++ coloured_box (partner_of x end) (cell_left j) (cell_top batch j x end) CELL_WIDTH CELL_HEIGHT
+    ++ text_start (column_place j + 16) (half_top batch j x end + 14) ++ arrow_of x.kind end
+    ++ decimal (partner_of x end) ++ codes "</text>"
+    ++ number_text (column_place j + 16) (half_top batch j x end + 24) t
 
 -- both cells of transfer t
 unfoldable pub transfer_cells : List Transfer → ℕ → ℕ → List ℕ
@@ -87,5 +95,5 @@ transfer_cells batch j t =
 unfoldable pub column_text : List Transfer → ℕ → ℕ → List ℕ → List ℕ
 column_text batch j k setting =
     codes "<text class='number' x='" ++ decimal (column_place j + 16) ++ codes "' y='"
-    ++ decimal (ROWS_TOP - 10) ++ codes "'>" ++ decimal k ++ codes "</text>\n"
+    ++ decimal (panel_place batch (panel_of j) + 14) ++ codes "'>" ++ decimal k ++ codes "</text>\n"
     ++ flat_map (λ t. transfer_cells batch j t) setting

@@ -32,14 +32,14 @@ pub record CellsOverlap (batch : List Transfer) (j : ℕ) (x : Transfer) (e : En
     (f : End) : Type 0 where
   pub not_right : cell_left j < cell_left l + CELL_WIDTH
   pub not_left : cell_left l < cell_left j + CELL_WIDTH
-  pub not_below : cell_top batch x e < cell_top batch y f + CELL_HEIGHT
-  pub not_above : cell_top batch y f < cell_top batch x e + CELL_HEIGHT
+  pub not_below : cell_top batch j x e < cell_top batch l y f + CELL_HEIGHT
+  pub not_above : cell_top batch l y f < cell_top batch j x e + CELL_HEIGHT
 
 -- two cells of the picture of a schedule overlap only where they are one
 abbrev pub NothingOverlaps : Type 0
 NothingOverlaps =
     (batch : List Transfer) (settings : List (List ℕ)) (shown : ShownSettings)
-    → IsScheduleOf batch settings
+    → IsBatch batch → IsScheduleOf batch settings
     → (j i : ℕ) (x : Transfer) (e : End) (l k : ℕ) (y : Transfer) (f : End)
     → IsDrawnAt batch settings shown j i x → IsDrawnAt batch settings shown l k y
     → CellsOverlap batch j x e l y f → (j ≡ l) × (i ≡ k) × (e ≡ f)

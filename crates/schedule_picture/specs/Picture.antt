@@ -94,14 +94,14 @@ ground_text width height =
 -- the size and the title
 unfoldable pub title_part : List Transfer → ℕ → Verdict → ShownSettings → List ℕ
 title_part batch settings verdict shown =
-    size_text (width_of shown.count) (height_of batch)
+    size_text (width_of shown.count) (height_of batch shown.count)
     ++ heading_text (length batch) settings verdict.fewest ++ codes ", "
     ++ note_text settings verdict shown ++ codes "</title>\n"
 
 -- the ground, and on it the heading and the note below that
 unfoldable pub caption_part : List Transfer → ℕ → Verdict → ShownSettings → List ℕ
 caption_part batch settings verdict shown =
-    ground_text (width_of shown.count) (height_of batch)
+    ground_text (width_of shown.count) (height_of batch shown.count)
     ++ heading_text (length batch) settings verdict.fewest
     ++ codes "</text>\n<text class='note' x='16' y='58'>" ++ note_text settings verdict shown
     ++ codes "</text>\n"
@@ -112,10 +112,10 @@ opening_text batch settings verdict shown =
     title_part batch settings verdict shown ++ style_text
     ++ caption_part batch settings verdict shown
 
--- what stands after the columns: the legend, below the rows
-unfoldable pub closing_text : List Transfer → List ℕ
-closing_text batch =
-    codes "<g transform='translate(16," ++ decimal (legend_place batch) ++ codes ")'>\n"
+-- what stands after the columns: the legend, below the panels
+unfoldable pub closing_text : List Transfer → ℕ → List ℕ
+closing_text batch columns =
+    codes "<g transform='translate(16," ++ decimal (legend_place batch columns) ++ codes ")'>\n"
     ++ explained_text ++ codes "</g>\n</svg>\n"
 
 -- the rows of the modules that take part, in their order, with so many columns
@@ -139,8 +139,8 @@ columns_text batch settings shown =
 abbrev pub picture_of : List Transfer → List (List ℕ) → Verdict → ShownSettings → List ℕ
 picture_of batch settings verdict shown =
     opening_text batch (length settings) verdict shown
-    ++ rows_text batch shown.count verdict.busiest ++ headings_text shown.count
-    ++ columns_text batch settings shown ++ closing_text batch
+    ++ rows_text batch shown.count verdict.busiest ++ headings_text batch shown.count
+    ++ columns_text batch settings shown ++ closing_text batch shown.count
 
 -- all settings
 abbrev pub all_shown : ℕ → ShownSettings

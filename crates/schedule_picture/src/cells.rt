@@ -6,10 +6,10 @@ ghost use Rattle.link_graph.specs.declared.link.End.{End};
 ghost use Rattle.link_graph.specs.Counts.{module_at as module_of};
 ghost use Rattle.schedule_picture.specs.Elements.{Adds};
 ghost use Rattle.schedule_picture.specs.Cells.{kind_label, way_of, arrow_of, end_label, title_text};
-ghost use Rattle.schedule_picture.specs.Cells.{cell_text, transfer_cells, column_text};
+ghost use Rattle.schedule_picture.specs.Cells.{number_text, cell_text, transfer_cells, column_text};
 
 use crate::elements::{push_coloured, push_text_start};
-use crate::layout::{CELL_HEIGHT, CELL_WIDTH, INSET, ROWS_TOP, column_left, half_below};
+use crate::layout::{CELL_HEIGHT, CELL_WIDTH, INSET, column_left, half_below, panel};
 use crate::rows::Rows;
 use batch::{Kind, MAX_MODULES, Transfer};
 use link_graph::End;
@@ -76,6 +76,17 @@ fn push_title(text: &mut String, number: usize, transfer: &Transfer) -> Result<(
     text.push_str("</title>")
 }
 
+/// Puts the number of a transfer at the end of the text, and ends its cell.
+#[tactic(auto, unfolding(crate::specs::Cells::number_text))]
+fn push_number(text: &mut String, left: usize, top: usize, number: usize) -> Result<(), AllocError>
+    ensures { OnOk result (Adds text.old text.new (number_text left top number)) }
+{
+    write!(
+        text,
+        "<text class='transfer' x='{left}' y='{top}'>{number}</text></g>\n"
+    )
+}
+
 /// Puts the cell at an end of a transfer at the end of the text, in a column.
 fn push_cell(
     text: &mut String,
@@ -92,7 +103,7 @@ fn push_cell(
 {
     let partner = module_at(end.other(), transfer);
     let left = column_left(column);
-    let top = rows.top(module_at(end, transfer)) + half_below(end);
+    let top = rows.top(panel(column), module_at(end, transfer)) + half_below(end);
     push_title(text, number, transfer)?;
     push_coloured(
         text,
@@ -103,8 +114,9 @@ fn push_cell(
         CELL_HEIGHT,
     )?;
     push_text_start(text, left + 16, top + 14)?;
-    text.push_str(arrow(transfer.kind, end))?;
-    write!(text, "{partner}</text></g>\n")
+    let arrow = arrow(transfer.kind, end);
+    write!(text, "{arrow}{partner}</text>")?;
+    push_number(text, left + 16, top + 24, number)
 }
 
 /// Puts the two cells of a transfer at the end of the text, in a column.
@@ -137,7 +149,7 @@ pub(crate) fn push_column(
     ensures { OnOk result
         (Adds text.old text.new (column_text rows.now column setting numbers.now)) }
 {
-    let (middle, above) = (column_left(column) + 16, ROWS_TOP - 10);
+    let (middle, above) = (column_left(column) + 16, rows.panel_top(panel(column)) + 14);
     write!(
         text,
         "<text class='number' x='{middle}' y='{above}'>{setting}</text>\n"

@@ -4,7 +4,7 @@
 ghost use Rattle.std.specs.Prelude.{◌≡◌, ◌<◌, ◌≤◌, ◌^◌};
 ghost use Rattle.batch.specs.Text.{IsNumber};
 ghost use Rattle.link_graph.specs.declared.link.End.{End};
-ghost use Rattle.schedule_picture.specs.Places.{column_place, panel_place, panels_of, panel_width};
+ghost use Rattle.schedule_picture.specs.Places.{column_place, panel_of, panels_of, panel_width};
 ghost use Rattle.schedule_picture.specs.Places.{half_place, width_of};
 
 use link_graph::End;
@@ -12,11 +12,14 @@ use link_graph::End;
 /// How far the picture's contents stand from its left side, and from its right.
 pub const MARGIN: usize = 16;
 
-/// How far the first row stands from the top.
-pub const ROWS_TOP: usize = 88;
+/// The height of what stands above the panels: the heading, and the note below it.
+pub const HEAD_HEIGHT: usize = 64;
 
-/// How many columns stand side by side before the labels of the rows come again.
+/// How many columns a panel has. Where there are more, the next panel stands below it.
 pub const PANEL_COLUMNS: usize = 32;
+
+/// The height of the numbers of a panel's columns, above its rows.
+pub const NUMBERS_HEIGHT: usize = 24;
 
 /// The width of the labels before each panel.
 pub const LABEL_WIDTH: usize = 128;
@@ -25,10 +28,10 @@ pub const LABEL_WIDTH: usize = 128;
 pub const COLUMN_WIDTH: usize = 32;
 
 /// The height of a row, with the room below it.
-pub const ROW_HEIGHT: usize = 48;
+pub const ROW_HEIGHT: usize = 64;
 
 /// The height of one half of a row.
-pub const HALF_HEIGHT: usize = 20;
+pub const HALF_HEIGHT: usize = 28;
 
 /// How far a cell stands from the left side of its column, and from the top of its half of a row.
 pub const INSET: usize = 2;
@@ -37,16 +40,23 @@ pub const INSET: usize = 2;
 pub const CELL_WIDTH: usize = 28;
 
 /// The height of a cell.
-pub const CELL_HEIGHT: usize = 16;
+pub const CELL_HEIGHT: usize = 24;
 
-/// How far a rule begins above the first row, and how far it ends above the legend.
+/// How far a rule begins above the first row of a panel, and how far it ends above the panel's end.
 pub const RULE_ABOVE: usize = 8;
 
-/// The height of what stands below the rows.
-pub const LEGEND_HEIGHT: usize = 112;
+/// The height of what stands below the panels.
+pub const LEGEND_HEIGHT: usize = 120;
 
 /// The least width of a picture: that of the legend.
 pub const MIN_WIDTH: usize = 760;
+
+/// Which panel a column stands in.
+pub(crate) fn panel(column: usize) -> usize
+    ensures { result ≡ panel_of column }
+{
+    column / PANEL_COLUMNS
+}
 
 /// Where a column begins, from the left.
 #[tactic(auto, unfolding(crate::specs::Places::column_place))]
@@ -55,25 +65,16 @@ pub(crate) fn column_left(column: usize) -> usize
     ensures value { result ≡ column_place column }
     ensures small { result < 2 ^ 40 }
 {
-    MARGIN + (column / PANEL_COLUMNS + 1) * LABEL_WIDTH + column * COLUMN_WIDTH
+    MARGIN + LABEL_WIDTH + column % PANEL_COLUMNS * COLUMN_WIDTH
 }
 
 /// How many panels so many columns fill, the last of them perhaps in part.
 pub(crate) fn panels(columns: usize) -> usize
     requires { IsNumber columns }
     ensures value { result ≡ panels_of columns }
+    ensures number { IsNumber result }
 {
     columns.div_ceil(PANEL_COLUMNS)
-}
-
-/// Where the labels of a panel begin, from the left.
-#[tactic(auto, unfolding(crate::specs::Places::panel_place))]
-pub(crate) fn panel_left(panel: usize) -> usize
-    requires { IsNumber panel }
-    ensures value { result ≡ panel_place panel }
-    ensures small { result < 2 ^ 48 }
-{
-    MARGIN + panel * (LABEL_WIDTH + PANEL_COLUMNS * COLUMN_WIDTH)
 }
 
 /// How wide a panel's columns are together, of so many columns in all.
@@ -103,5 +104,5 @@ pub(crate) fn width(columns: usize) -> usize
     requires { IsNumber columns }
     ensures { result ≡ width_of columns }
 {
-    MIN_WIDTH.max(2 * MARGIN + panels(columns) * LABEL_WIDTH + columns * COLUMN_WIDTH)
+    MIN_WIDTH.max(2 * MARGIN + LABEL_WIDTH + PANEL_COLUMNS.min(columns) * COLUMN_WIDTH)
 }

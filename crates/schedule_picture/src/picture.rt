@@ -172,7 +172,7 @@ fn push_title(
     requires { IsNumber (shown.first + shown.count) }
     ensures { OnOk result (Adds text.old text.new (title_part rows.now settings verdict shown)) }
 {
-    push_size(text, width(shown.count), rows.height())?;
+    push_size(text, width(shown.count), rows.height(shown.count))?;
     push_heading(text, rows.transfers().len(), settings, verdict.fewest)?;
     text.push_str(", ")?;
     push_note(text, settings, verdict, shown)?;
@@ -190,7 +190,7 @@ fn push_caption(
     requires { IsNumber (shown.first + shown.count) }
     ensures { OnOk result (Adds text.old text.new (caption_part rows.now settings verdict shown)) }
 {
-    push_ground(text, width(shown.count), rows.height())?;
+    push_ground(text, width(shown.count), rows.height(shown.count))?;
     push_heading(text, rows.transfers().len(), settings, verdict.fewest)?;
     text.push_str("</text>\n<text class='note' x='16' y='58'>")?;
     push_note(text, settings, verdict, shown)?;
@@ -270,11 +270,12 @@ fn push_columns(
     Ok(())
 }
 
-/// Puts what stands below the rows at the end of the text.
-fn push_closing(text: &mut String, rows: &Rows<'_>) -> Result<(), AllocError>
-    ensures { OnOk result (Adds text.old text.new (closing_text rows.now)) }
+/// Puts what stands below the panels of so many columns at the end of the text.
+fn push_closing(text: &mut String, rows: &Rows<'_>, columns: usize) -> Result<(), AllocError>
+    requires { IsNumber columns }
+    ensures { OnOk result (Adds text.old text.new (closing_text rows.now columns)) }
 {
-    let below = rows.below();
+    let below = rows.below(columns);
     write!(text, "<g transform='translate(16,{below})'>\n")?;
     text.push_str(EXPLAINED)?;
     text.push_str("</g>\n</svg>\n")
@@ -307,8 +308,8 @@ pub fn draw(
     let mut text = String::new(alloc);
     push_opening(&mut text, &rows, settings, verdict, shown)?;
     push_rows(&mut text, &rows, shown.count, verdict.busiest)?;
-    push_headings(&mut text, shown.count)?;
+    push_headings(&mut text, &rows, shown.count)?;
     push_columns(&mut text, &rows, schedule, shown)?;
-    push_closing(&mut text, &rows)?;
+    push_closing(&mut text, &rows, shown.count)?;
     Ok(text)
 }

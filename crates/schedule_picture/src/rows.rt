@@ -2,10 +2,11 @@
 
 ghost use Rattle.std.specs.Prelude.{◌≡◌, ◌<◌, ◌≤◌, ◌^◌};
 ghost use Rattle.batch.specs.Batches.{IsBatch};
-ghost use Rattle.schedule_picture.specs.Places.{takes_part, row_of, row_place, legend_place};
-ghost use Rattle.schedule_picture.specs.Places.{height_of, TakePart};
+ghost use Rattle.batch.specs.Text.{IsNumber};
+ghost use Rattle.schedule_picture.specs.Places.{takes_part, row_of, row_place, panel_place};
+ghost use Rattle.schedule_picture.specs.Places.{legend_place, panel_height, height_of, TakePart};
 
-use crate::layout::{LEGEND_HEIGHT, ROW_HEIGHT, ROWS_TOP};
+use crate::layout::{HEAD_HEIGHT, LEGEND_HEIGHT, NUMBERS_HEIGHT, ROW_HEIGHT, panels};
 use batch::{Batch, MAX_MODULES, Transfer};
 use std::marker::Model;
 
@@ -83,29 +84,50 @@ impl<'a> Rows<'a> {
         rows
     }
 
-    /// How far the top of the module's row stands from the top of the picture.
+    /// The height of a panel: the numbers of its columns, and all rows.
+    #[tactic(auto, unfolding(crate::specs::Places::rack_modules, crate::specs::Places::panel_height))]
+    fn panel_height(&self) -> usize
+        ensures value { result ≡ panel_height self.now }
+        ensures small { result < 2 ^ 12 }
+    {
+        NUMBERS_HEIGHT + self.before(MAX_MODULES) * ROW_HEIGHT
+    }
+
+    /// How far the top of a panel stands from the top of the picture.
+    #[tactic(auto, unfolding(crate::specs::Places::panel_place))]
+    pub(crate) fn panel_top(&self, panel: usize) -> usize
+        requires { IsNumber panel }
+        ensures value { result ≡ panel_place self.now panel }
+        ensures small { result < 2 ^ 48 }
+    {
+        HEAD_HEIGHT + panel * self.panel_height()
+    }
+
+    /// How far the top of the module's row in a panel stands from the top of the picture.
     #[tactic(auto, unfolding(crate::specs::Places::row_place))]
-    pub(crate) fn top(&self, module: usize) -> usize
-        requires { «module» ≤ MAX_MODULES }
-        ensures value { result ≡ row_place self.now «module» }
-        ensures small { result < 2 ^ 20 }
+    pub(crate) fn top(&self, panel: usize, module: usize) -> usize
+        requires panel { IsNumber panel }
+        requires in_rack { «module» ≤ MAX_MODULES }
+        ensures value { result ≡ row_place self.now panel «module» }
+        ensures small { result < 2 ^ 49 }
     {
-        ROWS_TOP + self.before(module) * ROW_HEIGHT
+        self.panel_top(panel) + NUMBERS_HEIGHT + self.before(module) * ROW_HEIGHT
     }
 
-    /// How far the legend, below all rows, stands from the top of the picture.
-    #[tactic(auto, unfolding(crate::specs::Places::rack_modules, crate::specs::Places::legend_place))]
-    pub(crate) fn below(&self) -> usize
-        ensures value { result ≡ legend_place self.now }
-        ensures small { result < 2 ^ 20 }
+    /// How far the legend, below the panels of so many columns, stands from the top of the picture.
+    pub(crate) fn below(&self, columns: usize) -> usize
+        requires { IsNumber columns }
+        ensures value { result ≡ legend_place self.now columns }
+        ensures small { result < 2 ^ 48 }
     {
-        self.top(MAX_MODULES)
+        self.panel_top(panels(columns))
     }
 
-    /// The height of the picture.
-    pub(crate) fn height(&self) -> usize
-        ensures { result ≡ height_of self.now }
+    /// The height of a picture of so many columns.
+    pub(crate) fn height(&self, columns: usize) -> usize
+        requires { IsNumber columns }
+        ensures { result ≡ height_of self.now columns }
     {
-        self.below() + LEGEND_HEIGHT
+        self.below(columns) + LEGEND_HEIGHT
     }
 }

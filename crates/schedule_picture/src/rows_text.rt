@@ -10,9 +10,7 @@ ghost use Rattle.schedule_picture.specs.RowsText.{looks_of, lane_title, lane_tex
 ghost use Rattle.schedule_picture.specs.RowsText.{part_text, row_text};
 
 use crate::elements::{push_box, push_coloured, push_link, push_text_start};
-use crate::layout::{
-    HALF_HEIGHT, LABEL_WIDTH, ROWS_TOP, half_below, panel_columns, panel_left, panels,
-};
+use crate::layout::{HALF_HEIGHT, LABEL_WIDTH, MARGIN, half_below, panel_columns, panels};
 use crate::rows::Rows;
 use batch::MAX_MODULES;
 use link_graph::{End, Link};
@@ -29,13 +27,12 @@ fn is_busiest(busiest: Option<Link>, link: Link) -> bool
 }
 
 /// Puts the label of a module at the end of the text, in its colour.
-fn push_label(text: &mut String, module: usize, left: usize, top: usize) -> Result<(), AllocError>
-    requires left { left < 2 ^ 48 }
-    requires top { top < 2 ^ 20 }
-    ensures { OnOk result (Adds text.old text.new (label_text «module» left top)) }
+fn push_label(text: &mut String, module: usize, top: usize) -> Result<(), AllocError>
+    requires { top < 2 ^ 49 }
+    ensures { OnOk result (Adds text.old text.new (label_text «module» top)) }
 {
-    push_coloured(text, module, left + 8, top, 72, 40)?;
-    push_text_start(text, left + 44, top + 24)?;
+    push_coloured(text, module, MARGIN + 8, top, 72, 56)?;
+    push_text_start(text, MARGIN + 44, top + 32)?;
     write!(text, "module {module}</text>\n")
 }
 
@@ -66,19 +63,17 @@ fn push_lane(
     text: &mut String,
     marked: bool,
     link: Link,
-    left: usize,
     top: usize,
     width: usize,
 ) -> Result<(), AllocError>
-    requires left { left < 2 ^ 48 }
-    requires top { top < 2 ^ 20 }
-    ensures { OnOk result (Adds text.old text.new (lane_text marked link left top width)) }
+    requires { top < 2 ^ 49 }
+    ensures { OnOk result (Adds text.old text.new (lane_text marked link top width)) }
 {
     let end = link.end.number();
     let below = top + half_below(link.end);
     push_lane_title(text, marked, link)?;
-    push_box(text, left + LABEL_WIDTH, below, width, HALF_HEIGHT)?;
-    push_text_start(text, left + 104, below + 14)?;
+    push_box(text, MARGIN + LABEL_WIDTH, below, width, HALF_HEIGHT)?;
+    push_text_start(text, MARGIN + 104, below + 18)?;
     write!(text, "link {end}</text></g>\n")
 }
 
@@ -97,9 +92,9 @@ fn push_half(
     requires in_rack { link.«module» < MAX_MODULES }
     ensures { OnOk result (Adds text.old text.new (half_text rows.now columns busiest link panel)) }
 {
-    let (left, top) = (panel_left(panel), rows.top(link.module));
+    let top = rows.top(panel, link.module);
     let width = panel_columns(columns, panel);
-    push_lane(text, is_busiest(busiest, link), link, left, top, width)
+    push_lane(text, is_busiest(busiest, link), link, top, width)
 }
 
 /// Puts the part of a module's row that stands in one panel at the end of the text.
@@ -125,7 +120,7 @@ fn push_part(
         end: End::Three,
         module,
     };
-    push_label(text, module, panel_left(panel), rows.top(module))?;
+    push_label(text, module, rows.top(panel, module))?;
     push_half(text, rows, columns, busiest, zero, panel)?;
     push_half(text, rows, columns, busiest, three, panel)
 }
@@ -152,11 +147,11 @@ pub(crate) fn push_row(
 }
 
 /// Puts the heading of a panel's columns at the end of the text.
-fn push_heading(text: &mut String, panel: usize) -> Result<(), AllocError>
+fn push_heading(text: &mut String, rows: &Rows<'_>, panel: usize) -> Result<(), AllocError>
     requires { IsNumber panel }
-    ensures { OnOk result (Adds text.old text.new (heading_at panel)) }
+    ensures { OnOk result (Adds text.old text.new (heading_at rows.now panel)) }
 {
-    let (middle, above) = (panel_left(panel) + 104, ROWS_TOP - 10);
+    let (middle, above) = (MARGIN + 104, rows.panel_top(panel) + 14);
     write!(
         text,
         "<text class='number' x='{middle}' y='{above}'>setting</text>\n"
@@ -164,12 +159,16 @@ fn push_heading(text: &mut String, panel: usize) -> Result<(), AllocError>
 }
 
 /// Puts the headings of so many columns at the end of the text, one in each panel.
-pub(crate) fn push_headings(text: &mut String, columns: usize) -> Result<(), AllocError>
+pub(crate) fn push_headings(
+    text: &mut String,
+    rows: &Rows<'_>,
+    columns: usize,
+) -> Result<(), AllocError>
     requires { IsNumber columns }
-    ensures { OnOk result (Adds text.old text.new (headings_text columns)) }
+    ensures { OnOk result (Adds text.old text.new (headings_text rows.now columns)) }
 {
     for panel in 0..panels(columns) {
-        push_heading(text, panel)?;
+        push_heading(text, rows, panel)?;
     }
     Ok(())
 }

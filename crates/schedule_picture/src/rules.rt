@@ -7,7 +7,7 @@ ghost use Rattle.steady_schedule.specs.Changes.{are_partners, join_within as is_
 ghost use Rattle.schedule_picture.specs.Elements.{Adds};
 ghost use Rattle.schedule_picture.specs.Rules.{changes_at as is_change, rule_text};
 
-use crate::layout::{ROWS_TOP, RULE_ABOVE, column_left};
+use crate::layout::{NUMBERS_HEIGHT, RULE_ABOVE, column_left, panel};
 use crate::rows::Rows;
 use batch::Transfer;
 use link_graph::Schedule;
@@ -73,8 +73,9 @@ pub(crate) fn push_rule(
     ensures { OnOk result (Adds text.old text.new (rule_text rows.now column changes)) }
 {
     if changes {
-        let (left, above) = (column_left(column), ROWS_TOP - RULE_ABOVE);
-        let below = rows.below() - RULE_ABOVE;
+        let (left, panel) = (column_left(column), panel(column));
+        let above = rows.panel_top(panel) + NUMBERS_HEIGHT - RULE_ABOVE;
+        let below = rows.panel_top(panel + 1) - RULE_ABOVE;
         return write!(text, "<path class='change' d='M{left} {above}V{below}'/>\n");
     }
     Ok(())

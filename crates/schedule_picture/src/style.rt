@@ -8,11 +8,12 @@ pub const STYLE: &str = "\
 text{font:12px sans-serif;text-anchor:middle}\n\
 .heading{font:bold 16px sans-serif;text-anchor:start}\n\
 .number{fill:#595959;font-size:10px}\n\
+.transfer{font-size:9px}\n\
 .note{text-anchor:start}\n\
 .paper{fill:#fff}\n\
 .lane rect{fill:#eee}\n\
 .lane text{fill:#595959}\n\
-.busiest rect{fill:#000}\n\
+.busiest rect{fill:#eee;stroke:#000;stroke-width:2}\n\
 .busiest text{font-weight:bold}\n\
 .change{stroke:#000;stroke-dasharray:3 3}\n\
 .m0{fill:#56b4e9}.m1{fill:#e08020}.m2{fill:#20c0a0}.m3{fill:#ffffa0}\n\
@@ -29,7 +30,7 @@ svg{background:#111}\n\
 .heading,.note,.busiest text{fill:#eee}\n\
 .number,.lane text{fill:#aaa}\n\
 .lane rect{fill:#333}\n\
-.busiest rect{fill:#fff}\n\
+.busiest rect{fill:#333;stroke:#fff}\n\
 .change{stroke:#eee}\n\
 }\n\
 </style>\n\
@@ -37,17 +38,16 @@ svg{background:#111}\n\
 
 /// What the picture's signs and words mean.
 pub const EXPLAINED: &str = "\
-<g class='lane'><rect y='8' width='32' height='20'/></g><rect class='m1' x='2' y='10' \
-width='28' height='16'/>\n\
-<text x='16' y='22'>&#8594;1</text><text class='note' x='44' y='22'>The words go to module \
-1 (&#8592;1: they come from there). A cell has its partner's colour, as the labels show \
-it.</text>\n\
-<g class='busiest'><rect y='36' width='32' height='20'/></g><rect class='m1' x='2' y='38' \
-width='28' height='16'/>\n\
-<text x='16' y='50'>&#8594;1</text><text class='note' x='44' y='50'>Framed: the busiest \
-link. No two of its transfers share a setting, so it wants a setting for each.</text>\n\
-<text class='note' y='78'>Columns are settings of the switch. In a module's row, link 0 \
+<g class='lane'><rect y='8' width='32' height='28'/></g><rect class='m1' x='2' y='10' \
+width='28' height='24'/>\n\
+<text x='16' y='22'>&#8594;1</text><text class='transfer' x='16' y='32'>7</text>\
+<text class='note' x='44' y='26'>Transfer 7: its words go to module 1 (&#8592;1: they come from \
+there). A cell has its partner's colour, as labels show it.</text>\n\
+<g class='busiest'><rect y='44' width='32' height='28'/></g>\
+<text class='note' x='44' y='62'>Framed: the busiest link. No two of its transfers share a \
+setting, so it wants a setting for each.</text>\n\
+<text class='note' y='92'>Columns are settings of the switch. In a module's row, link 0 \
 above starts transfers, and link 3 below answers them.</text>\n\
-<text class='note' y='96'>Dashed: here the switch changes, to join other pairs of links. \
+<text class='note' y='110'>Dashed: here the switch changes, to join other pairs of links. \
 A link needs a change for each of its partners.</text>\n\
 ";

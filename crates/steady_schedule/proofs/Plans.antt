@@ -1,9 +1,7 @@
--- What follows from a shortest schedule: no setting is empty. And it changes once a setting at
--- most.
-use Rattle.std.proofs.Common.{◌≡◌, ℕ, ◌<◌, ◌≤◌, List, [], ◌∷◌, length, get_or, take, drop, suc, cond, Bool, Option, Some, None, All, refl, ap, ◌∙◌, inl, inr, arith}
+-- What follows from a shortest schedule: no setting is empty.
+use Rattle.std.proofs.Common.{◌≡◌, ℕ, ◌<◌, ◌≤◌, List, [], ◌∷◌, length, get_or, take, drop, suc, Option, Some, None, All, refl, ap, ◌∙◌, inl, inr, arith}
 use Rattle.std.specs.List.{remove}
 use Rattle.std.proofs.lemmas.Bool.{cases_lt}
-use Rattle.std.proofs.lemmas.Bool.Decides.{nat_tests}
 use Rattle.std.proofs.lemmas.List.Edits.{length-remove}
 use Rattle.std.proofs.lemmas.List.Elements.{All-append, All-take, All-drop}
 use Rattle.std.proofs.lemmas.List.Sums.{sum_by-remove}
@@ -16,7 +14,6 @@ use Rattle.link_graph.specs.Schedules.{times, IsScheduleOf}
 use Rattle.link_graph.specs.Uses.{IsMatching}
 use Rattle.link_graph.proofs.Koenig.{certified}
 use Rattle.std.proofs.lemmas.List.{get_or_default}
-use Rattle.steady_schedule.specs.Changes.{join_same, changes_after, changes}
 use Rattle.steady_schedule.specs.Plans.{NamesBusiest}
 
 no_items : (xs : List ℕ) → length xs ≤ 0 → xs ≡ []
@@ -49,20 +46,6 @@ none_empty batch settings s k d k_in = elim (cases_lt 0 (length (get_or settings
 pub certified_none_empty : (batch : List Transfer) (settings : List (List ℕ)) (named : Naming) → IsScheduleOf batch settings
     → IsCertificate batch settings named → All (λ setting. 0 < length setting) settings
 certified_none_empty batch settings named schedule certificate = none_empty batch settings (certified batch settings named schedule certificate)
-
-abbrev change_of : Bool → ℕ
-change_of b = cond b 0 1
-
-one_change : (b : Bool) → change_of b ≤ 1
-one_change b = grind (arith, nat_tests)
-
-after_few : (batch : List Transfer) (before : List ℕ) (rest : List (List ℕ)) → changes_after batch before rest ≤ length rest
-after_few batch before [] = omega arith
-after_few batch before (setting ∷ rest) = omega (arith, one_change (join_same batch before setting), after_few batch setting rest)
-
-pub changes_few : (batch : List Transfer) (settings : List (List ℕ)) → changes batch settings ≤ length settings
-changes_few batch [] = omega arith
-changes_few batch (setting ∷ rest) = omega (arith, after_few batch setting rest)
 
 -- ---- the busiest link
 

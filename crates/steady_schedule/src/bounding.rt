@@ -16,11 +16,27 @@ use batch::{MAX_MODULES, MAX_TRANSFERS};
 use link_graph::{LINKS, Link, LinkGraph};
 use std::alloc::{AllocError, Global};
 
-/// How many tables of prices are tried at most.
+/// How many tables of prices are tried at most. The prices of more show hardly more changes.
 const MAX_ROUNDS: usize = 100;
 
-/// How many sums of two costs all of them may take together, at two or three instructions each.
+/// How many sums of two costs all of them may take together, at two or three instructions each. So
+/// a picture of any batch is made within a blink.
 const MAX_SUMS: usize = 10_000_000;
+
+/// How many sums take as long as to move the prices of a length.
+const MOVE_SUMS: usize = 1000;
+
+/// How fine slopes are, so that a mean of small numbers isn't rounded off.
+const SLOPE_PARTS: i64 = 64;
+
+/// Over about how many rounds a slope is the mean, so that prices don't swing from round to round.
+const SLOPE_ROUNDS: i64 = 8;
+
+/// A price stays where its slope is within so many of these parts: that is too near the mean.
+const LEAST_SLOPE: i64 = 3;
+
+/// Of how much of the mean price the first step is, in hundredths: by wider ones prices overshoot.
+const FIRST_STEP: usize = 16;
 
 /// A link with a transfer in each of so many settings, and the most that it has with any partner:
 /// that of several for which this is least.
@@ -65,8 +81,15 @@ fn move_prices(
         let place = row * LINKS + link;
         let above = links.wrapping_mul(pieces[place] as i64).wrapping_sub(all);
         let slope = slopes[place];
-        slopes[place] = slope.wrapping_add(above.wrapping_mul(64).wrapping_sub(slope) / 8);
-        prices[place] = moved(prices[place], slopes[place], links.wrapping_mul(3), step);
+        slopes[place] = slope.wrapping_add(
+            above.wrapping_mul(SLOPE_PARTS).wrapping_sub(slope) / SLOPE_ROUNDS,
+        );
+        prices[place] = moved(
+            prices[place],
+            slopes[place],
+            links.wrapping_mul(LEAST_SLOPE),
+            step,
+        );
         pieces[place] = 0;
     }
 }
@@ -100,7 +123,7 @@ fn scale(prices: &mut [u32], row: usize)
 fn step_of(left: usize, rounds: usize, links: usize) -> u32
     requires { left ≤ 100 }
 {
-    let size = (SCALE as usize * 16 / 100) * left * left;
+    let size = (SCALE as usize * FIRST_STEP / 100) * left * left;
     let parts = links.saturating_mul(rounds.saturating_mul(rounds)).max(1);
     (size / parts).clamp(1, SCALE as usize) as u32
 }
@@ -162,8 +185,7 @@ impl Needs<'_> {
                 most = shown;
                 best.copy_from_slice(prices);
             }
-            // To move the prices of a length takes as long as a thousand
-            ways.left = ways.left.saturating_sub(1000 * self.top);
+            ways.left = ways.left.saturating_sub(MOVE_SUMS * self.top);
             let each = before.saturating_sub(ways.left).max(1);
             let rounds = (ways.left / each).min(MAX_ROUNDS - 1 - round);
             if rounds == 0 {

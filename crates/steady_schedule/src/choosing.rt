@@ -10,12 +10,12 @@ ghost use Rattle.steady_schedule.specs.Reaches.{JoinsNeeded, IsBarred, AreAtMost
 ghost use Rattle.steady_schedule.specs.Searches.{JoinsNear};
 ghost use Rattle.steady_schedule.specs.Waiting.{HaveMost, NoneWait};
 
-use crate::masks::{TrialOrder, TrialOrders, first, without_module};
-use crate::matching::{Matching, Partners, augment};
+use crate::masks::{TrialOrder, first, without_module};
+use crate::matching::{Matching, Partners, augment, join_free};
 use crate::reach::{Holdable, Reach};
 use crate::remaining::Remaining;
 use batch::MAX_MODULES;
-use link_graph::{End, has_module, lowest};
+use link_graph::{End, Masks, has_module, lowest};
 
 /// A link that has to be joined, and found no partner; and the links of the other end that the
 /// search didn't see.
@@ -35,47 +35,17 @@ pub(crate) struct Choice {
     pub(crate) shorter: usize,
 }
 
-/// Of links 0, the pairs that can be held just so long. All of them have to be joined.
-fn just_pairs(reach: &Reach, modules: usize) -> Holdable
+/// Of links 0, the pairs that can be held just so long, and are used up then.
+fn just_pairs(reach: &Reach, modules: usize) -> Masks
     requires { modules ≤ MAX_MODULES }
-    ensures { (u v : ℕ) → has_pair result.near u v ≡ true
+    ensures { (u v : ℕ) → has_pair result u v ≡ true
         → has_pair reach.now.zero.near u v ≡ true }
 {
-    let mut pairs = Holdable::none(u32::MAX, reach.zero.order);
+    let mut pairs = [0; MAX_MODULES];
     for module in 0..modules {
-        pairs.near[module] = reach.zero.near[module] & reach.zero.just[module];
+        pairs[module] = reach.zero.near[module] & reach.zero.just[module];
     }
     pairs
-}
-
-/// Finds a partner for a link 0, where it has none, by one of these pairs. Where that is in vain,
-/// it takes the links 3 that it saw out of those that are open: each search from there is in vain
-/// too. No contract says so.
-fn join_open(pairs: &Holdable, open: &mut u32, matching: &mut Matching, zero: usize)
-    requires { zero < MAX_MODULES }
-    ensures { JoinsNear pairs.now.near matching.old.zero matching.new.zero }
-{
-    if matching.zero[zero].is_some() || pairs.near[zero] & *open == 0 {
-        return;
-    }
-    let mut unseen = *open;
-    let (of, back) = (&mut matching.zero, &mut matching.three);
-    if !augment(zero, pairs, of, back, &mut unseen) {
-        *open = unseen;
-    }
-}
-
-/// Joins links by pairs that can be held just so long, and are used up then: as many as there can
-/// be. No contract says so.
-fn join_just(reach: &Reach, matching: &mut Matching, modules: usize)
-    requires { modules ≤ MAX_MODULES }
-    ensures { JoinsNear reach.now.zero.near matching.old.zero matching.new.zero }
-{
-    let pairs = just_pairs(reach, modules);
-    let mut open = u32::MAX;
-    for zero in 0..modules {
-        join_open(&pairs, &mut open, matching, zero);
-    }
 }
 
 /// Finds a partner for a link, where it has none. Where that is in vain, gives the links that
@@ -102,14 +72,8 @@ fn join_needed_one(held: &Holdable, x: usize, of: &mut Partners, back: &mut Part
     Some(unseen)
 }
 
-/// Finds a partner for each link that has to be joined, in this order, or tells the first for which
-/// it can't.
-fn join_needed(
-    held: &Holdable,
-    order: TrialOrder,
-    of: &mut Partners,
-    back: &mut Partners,
-) -> Option<Unmatched>
+/// Finds a partner for each link that has to be joined, or tells the first for which it can't.
+fn join_needed(held: &Holdable, of: &mut Partners, back: &mut Partners) -> Option<Unmatched>
     requires matched { AreMatched of.old back.old }
     ensures matched { AreMatched of.new back.new }
     ensures near { JoinsNear held.now.near of.old of.new }
@@ -122,7 +86,7 @@ fn join_needed(
 {
     let mut rest = held.needed;
     'links: while rest != 0 {
-        let link = first(rest, order);
+        let link = first(rest, held.order);
         rest = without_module(rest, link);
         if let Some(unseen) = join_needed_one(held, link, of, back) {
             return Some(Unmatched { link, unseen });
@@ -226,22 +190,12 @@ fn join_all_needed(
     ensures less { result < reach.now.settings }
 {
     let tried = reach.settings;
-    let in_vain = join_needed(
-        &reach.zero,
-        reach.three.order,
-        &mut matching.zero,
-        &mut matching.three,
-    );
+    let in_vain = join_needed(&reach.zero, &mut matching.zero, &mut matching.three);
     if let Some(vain) = in_vain {
         let of = &matching.zero;
         return shorter(remaining, End::Zero, vain, of, most, modules, tried);
     }
-    let in_vain = join_needed(
-        &reach.three,
-        reach.zero.order,
-        &mut matching.three,
-        &mut matching.zero,
-    );
+    let in_vain = join_needed(&reach.three, &mut matching.three, &mut matching.zero);
     if let Some(vain) = in_vain {
         let of = &matching.three;
         return shorter(remaining, End::Three, vain, of, most, modules, tried);
@@ -250,13 +204,14 @@ fn join_all_needed(
 }
 
 impl Choice {
-    /// One that is held for so many settings, as far as that can be.
+    /// One that is held for so many settings, as far as that can be. It has many of the pairs that
+    /// are used up then; no contract says so.
     fn of(
         remaining: &Remaining,
         most: usize,
         modules: usize,
         settings: usize,
-        orders: TrialOrders,
+        order: TrialOrder,
     ) -> Choice
         requires within { modules ≤ MAX_MODULES }
         requires none { NoneWait remaining.now.counts modules }
@@ -272,9 +227,9 @@ impl Choice {
             result.matching.zero result.matching.three most settings }
         ensures shorter { result.shorter < settings }
     {
-        let reach = Reach::of(remaining, most, modules, settings, orders);
+        let reach = Reach::of(remaining, most, modules, settings, order);
         let mut matching = Matching::none();
-        join_just(&reach, &mut matching, modules);
+        join_free(&just_pairs(&reach, modules), &mut matching, modules);
         let shorter = join_all_needed(remaining, &reach, &mut matching, most, modules);
         Choice {
             matching,
@@ -291,7 +246,7 @@ pub(crate) fn choose(
     most: usize,
     modules: usize,
     longest: usize,
-    orders: TrialOrders,
+    order: TrialOrder,
 ) -> Choice
     requires within { modules ≤ MAX_MODULES }
     requires none { NoneWait remaining.now.counts modules }
@@ -306,10 +261,10 @@ pub(crate) fn choose(
     ensures joined { JoinsNeeded remaining.now.counts result.matching.zero result.matching.three
         most result.reach.settings }
 {
-    let mut choice = Choice::of(remaining, most, modules, longest.min(most), orders);
+    let mut choice = Choice::of(remaining, most, modules, longest.min(most), order);
     'lengths: while choice.shorter > 0 {
         let shorter = choice.shorter;
-        choice = Choice::of(remaining, most, modules, shorter, orders);
+        choice = Choice::of(remaining, most, modules, shorter, order);
     }
     choice
 }

@@ -12,8 +12,8 @@
 //! later setting uses; and at most as often as there are pairs of links and links in use
 //! (`IsSteady` of `specs/Plans.antt`). Mostly the switch changes far less often than its bound.
 //!
-//! Each step is as long as any can be (Gopal and Wong's rule). Links are tried in up to four orders
-//! for such schedules. Where fewer steps may be enough, a fifth is made of other steps: of each the
+//! Each step is as long as any can be (Gopal and Wong's rule). Links are tried in up to two orders
+//! for such schedules. Where fewer steps may be enough, a third is made of other steps: of each the
 //! matching is sought by the length that uses up the most pairs and idle links, and held as long as
 //! it can be. The schedule with the fewest steps is taken. No contract says so. Of small batches
 //! drawn at random at least 94 in 100 have the fewest changes, and all of them together at most 2

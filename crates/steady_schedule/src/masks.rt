@@ -15,41 +15,31 @@ pub(crate) enum TrialOrder {
 
 /// How the steps of a plan are made.
 #[derive(Clone, Copy)]
-pub(crate) struct TrialOrders {
+pub(crate) struct PlanWay {
     /// In which order the modules of each end are tried.
-    pub(crate) zero: TrialOrder,
-    pub(crate) three: TrialOrder,
+    pub(crate) order: TrialOrder,
     /// How many links are looked at for each transfer, at most, while steps are sought that use up
-    /// as many pairs as they can. So that takes no more time than some plans.
+    /// as many pairs as they can.
     pub(crate) looks: usize,
 }
 
-/// The orders in which links are tried, of each plan.
-pub(crate) const TRIAL_ORDERS: [TrialOrders; 5] = [
-    TrialOrders {
-        zero: TrialOrder::Rising,
-        three: TrialOrder::Rising,
+/// So many looks take less time than a plan of the other ways, and few batches gain by more.
+const LOOKS: usize = 8;
+
+/// The ways in which plans are made, of which the best is taken. The two orders are each other's
+/// reverse, so their plans differ most.
+pub(crate) const PLAN_WAYS: [PlanWay; 3] = [
+    PlanWay {
+        order: TrialOrder::Rising,
         looks: 0,
     },
-    TrialOrders {
-        zero: TrialOrder::Falling,
-        three: TrialOrder::Rising,
+    PlanWay {
+        order: TrialOrder::Falling,
         looks: 0,
     },
-    TrialOrders {
-        zero: TrialOrder::Rising,
-        three: TrialOrder::Falling,
-        looks: 0,
-    },
-    TrialOrders {
-        zero: TrialOrder::Falling,
-        three: TrialOrder::Falling,
-        looks: 0,
-    },
-    TrialOrders {
-        zero: TrialOrder::Rising,
-        three: TrialOrder::Rising,
-        looks: 24,
+    PlanWay {
+        order: TrialOrder::Rising,
+        looks: LOOKS,
     },
 ];
 

@@ -2,15 +2,16 @@
 
 ghost use Rattle.std.specs.Prelude.{◌≡◌, ◌<◌, ◌≤◌, Some, None, true, false, set};
 ghost use Rattle.batch.specs.declared.limits.TheConstants.{MAX_MODULES};
-ghost use Rattle.steady_schedule.specs.Covers.{AreFree};
+ghost use Rattle.steady_schedule.specs.Covers.{AreFree, KeepsPartners};
 ghost use Rattle.link_graph.specs.Masks.{has_bit};
 ghost use Rattle.steady_schedule.specs.Matchings.{partner, AreMatched, AreBelow};
 ghost use Rattle.steady_schedule.specs.Searches.{AllSeen, IsStuck, IsInVain, IsFound, IsFreed};
+ghost use Rattle.steady_schedule.specs.Searches.{JoinsNear};
 
 use crate::masks::{first_of, with_module, without_module};
 use crate::reach::Holdable;
 use batch::MAX_MODULES;
-use link_graph::has_module;
+use link_graph::{Masks, has_module, lowest};
 
 /// For each module the one that its link is joined to, where it is joined. Bytes, since each choice
 /// has tables of its own.
@@ -63,6 +64,38 @@ pub(crate) fn join(of: &mut Partners, back: &mut Partners, x: usize, y: usize)
 {
     of[x] = Some(y as u8);
     back[y] = Some(x as u8);
+}
+
+/// Joins a link 0 that is free to one of these links 3, which are free, where it is near to any.
+fn join_one(near: &Masks, matching: &mut Matching, zero: usize, free: &mut u32)
+    requires low { zero < MAX_MODULES }
+    requires free { AreFree matching.old.three free.old }
+    ensures joins { JoinsNear near.now matching.old.zero matching.new.zero }
+    ensures zero { KeepsPartners matching.old.zero matching.new.zero }
+    ensures three { KeepsPartners matching.old.three matching.new.three }
+    ensures free { AreFree matching.new.three free.new }
+{
+    let mask = near[zero] & *free;
+    if mask == 0 || matching.zero[zero].is_some() {
+        return;
+    }
+    let three = lowest(mask);
+    join(&mut matching.zero, &mut matching.three, zero, three);
+    *free = without_module(*free, three);
+}
+
+/// Joins links that are free and near each other, as far as it finds them: no contract says that it
+/// joins any. Those that have partners still have some.
+pub(crate) fn join_free(near: &Masks, matching: &mut Matching, modules: usize)
+    requires { modules ≤ MAX_MODULES }
+    ensures joins { JoinsNear near.now matching.old.zero matching.new.zero }
+    ensures zero { KeepsPartners matching.old.zero matching.new.zero }
+    ensures three { KeepsPartners matching.old.three matching.new.three }
+{
+    let mut free = free(&matching.three, modules);
+    for zero in 0..modules {
+        join_one(near, matching, zero, &mut free);
+    }
 }
 
 /// Parts two links that are joined.

@@ -18,7 +18,7 @@ ghost use Rattle.steady_schedule.specs.Waiting.{sum_below, pair_index, count_at,
 ghost use Rattle.steady_schedule.specs.Waiting.{HaveMost, NoneWait};
 
 use crate::gathering::{empty_lists, push_into};
-use crate::masks::{TRIAL_ORDERS, TrialOrders};
+use crate::masks::{PLAN_WAYS, PlanWay, TrialOrder};
 use crate::matching::{Matching, part};
 use crate::remaining::{PAIRS, Remaining};
 use crate::stepping::next_step;
@@ -160,7 +160,7 @@ fn any_step(
     modules: usize,
     longest: &mut usize,
     looks: &mut usize,
-    orders: TrialOrders,
+    order: TrialOrder,
 ) -> usize
     requires some { 0 < most }
     requires few { most ≤ MAX_TRANSFERS }
@@ -175,7 +175,7 @@ fn any_step(
     if let Some(held) = weighed_step(remaining, matching, most, modules, *longest, looks) {
         return held;
     }
-    let held = next_step(remaining, matching, most, modules, *longest, orders);
+    let held = next_step(remaining, matching, most, modules, *longest, order);
     *longest = held;
     held
 }
@@ -191,7 +191,7 @@ fn fill(
     settings: usize,
     enough: usize,
     longest: usize,
-    orders: TrialOrders,
+    way: PlanWay,
 ) -> (usize, usize)
     requires whole { remaining.now.counts ≡ places.now.totals.now }
     requires most { HaveMost remaining.now.counts settings }
@@ -206,7 +206,7 @@ fn fill(
     let mut left = *remaining;
     let modules = left.modules();
     let mut matching = Matching::none();
-    let mut looks = orders.looks.saturating_mul(slots.len() / modules.max(1));
+    let mut looks = way.looks.saturating_mul(slots.len() / modules.max(1));
     let mut first = 0;
     let mut steps = 0usize;
     let mut longest_now = longest;
@@ -223,7 +223,7 @@ fn fill(
             modules,
             &mut longest_now,
             &mut looks,
-            orders,
+            way.order,
         );
         if first == 0 {
             top = longest_now;
@@ -243,7 +243,7 @@ fn fill(
     (steps, top)
 }
 
-/// Does so in the way that makes the fewest steps, or in the first one where that makes as few as
+/// Does so in the way that makes the fewest steps. It tries no more ways where one makes as few as
 /// can be by what one link has. No contract says so. The slots of others are written into `spare`.
 fn fill_best(
     remaining: &Remaining,
@@ -267,9 +267,9 @@ fn fill_best(
         settings,
         settings + 1,
         MAX_TRANSFERS,
-        TRIAL_ORDERS[0],
+        PLAN_WAYS[0],
     );
-    for place in 1..TRIAL_ORDERS.len() {
+    for place in 1..PLAN_WAYS.len() {
         if best <= remaining.least_steps(settings) {
             return;
         }
@@ -280,7 +280,7 @@ fn fill_best(
             settings,
             best,
             longest,
-            TRIAL_ORDERS[place],
+            PLAN_WAYS[place],
         );
         if steps < best {
             best = steps;

@@ -1,10 +1,7 @@
-ghost use Rattle.std.specs.Prelude.{◌≡◌, ◌≤◌, length};
-ghost use Rattle.steady_schedule.specs.Changes.{changes};
-ghost use Rattle.steady_schedule.specs.Plans.{steady_plan, IsSteady, IsDemanding};
+ghost use Rattle.std.specs.Prelude.{◌≡◌};
+ghost use Rattle.steady_schedule.specs.Plans.{steady_plan, IsSteady};
 
-use crate::changing::count_changes;
-use crate::partners::most_partners;
-use link_graph::{Certificate, Link, LinkGraph, Schedule};
+use link_graph::{Certificate, LinkGraph, Schedule};
 use std::marker::Model;
 
 /// A shortest schedule of a batch with its certificate, that changes the switch only at need.
@@ -66,27 +63,5 @@ impl Steady {
         ensures steady { IsSteady self.now }
     {
         &self.certificate
-    }
-
-    /// How often the schedule changes the switch: at most once for each setting. Also at most once
-    /// for each pair of links that share transfers, and once for each link in use. Each call counts
-    /// over the schedule, in time that grows with the numbers of transfers and of settings.
-    pub fn changes(&self) -> usize
-        ensures changes { result ≡ changes self.now.batch self.now.settings }
-        ensures few { result ≤ length self.now.settings }
-        ensures steady { IsSteady self.now }
-    {
-        count_changes(&self.graph, &self.schedule)
-    }
-
-    /// The first of the links that have the most partners, and how many these are. Any schedule of
-    /// the batch changes the switch at least so often, by
-    /// [`partners_need_changes`](crate::laws::partners_need_changes). An empty batch has none. Each
-    /// call looks for it, in time that grows with the number of transfers.
-    pub fn most_partnered(&self) -> Option<(Link, usize)>
-        ensures most_partnered { IsDemanding self.now.batch result }
-        ensures steady { IsSteady self.now }
-    {
-        most_partners(&self.graph)
     }
 }

@@ -5,7 +5,7 @@ ghost use Rattle.batch.specs.declared.limits.TheConstants.{MAX_MODULES, MAX_TRAN
 ghost use Rattle.link_graph.specs.Masks.{has_pair};
 ghost use Rattle.steady_schedule.specs.Reaches.{AreHeld, HaveHeld, IsOverMask};
 
-use crate::masks::{TrialOrder, TrialOrders, with_module, without_module};
+use crate::masks::{TrialOrder, with_module, without_module};
 use crate::remaining::Remaining;
 use batch::MAX_MODULES;
 use link_graph::{Masks, lowest};
@@ -20,7 +20,7 @@ pub(crate) struct Holdable {
     pub(crate) just: Masks,
     /// The links that have more transfers than there are settings left then.
     pub(crate) needed: u32,
-    /// In which order links of the other end are tried as partners. No contract says so.
+    /// In which order links are tried. No contract says so.
     pub(crate) order: TrialOrder,
 }
 
@@ -112,7 +112,7 @@ impl Reach {
         most: usize,
         modules: usize,
         settings: usize,
-        orders: TrialOrders,
+        order: TrialOrder,
     ) -> Reach
         requires some { 0 < settings }
         requires few { most ≤ MAX_TRANSFERS }
@@ -129,14 +129,8 @@ impl Reach {
     {
         let mut reach = Reach {
             settings,
-            zero: Holdable::none(
-                over(&remaining.zero.uses, most - settings, modules),
-                orders.three,
-            ),
-            three: Holdable::none(
-                over(&remaining.three.uses, most - settings, modules),
-                orders.zero,
-            ),
+            zero: Holdable::none(over(&remaining.zero.uses, most - settings, modules), order),
+            three: Holdable::none(over(&remaining.three.uses, most - settings, modules), order),
         };
         for zero in 0..modules {
             reach.add_row(remaining, zero);

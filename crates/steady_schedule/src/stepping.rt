@@ -3,50 +3,17 @@
 ghost use Rattle.std.specs.Prelude.{◌≡◌, ℕ, ◌+◌, ◌<◌, ◌≤◌, Some, None};
 ghost use Rattle.link_graph.specs.declared.link.End.TheVariants.{Zero, Three};
 ghost use Rattle.batch.specs.declared.limits.TheConstants.{MAX_MODULES, MAX_TRANSFERS};
-ghost use Rattle.steady_schedule.specs.Covers.{AreFree, AreCovered, KeepsPartners};
+ghost use Rattle.steady_schedule.specs.Covers.{AreCovered};
 ghost use Rattle.steady_schedule.specs.Matchings.{partner, AreBelow};
-ghost use Rattle.steady_schedule.specs.Searches.{AreNear, JoinsNear};
+ghost use Rattle.steady_schedule.specs.Searches.{AreNear};
 ghost use Rattle.steady_schedule.specs.Steps.{CanHold};
 ghost use Rattle.steady_schedule.specs.Waiting.{count_at, waiting, HaveMost, NoneWait};
 
 use crate::choosing::{Choice, choose};
-use crate::masks::{TrialOrders, without_module};
-use crate::matching::{Matching, free, join};
+use crate::masks::TrialOrder;
+use crate::matching::{Matching, join_free};
 use crate::remaining::Remaining;
 use batch::MAX_MODULES;
-use link_graph::{Masks, lowest};
-
-/// Joins a link 0 that is free to one of these links 3, which are free, where it is near to any.
-fn join_one(near: &Masks, matching: &mut Matching, zero: usize, free: &mut u32)
-    requires low { zero < MAX_MODULES }
-    requires free { AreFree matching.old.three free.old }
-    ensures joins { JoinsNear near.now matching.old.zero matching.new.zero }
-    ensures zero { KeepsPartners matching.old.zero matching.new.zero }
-    ensures three { KeepsPartners matching.old.three matching.new.three }
-    ensures free { AreFree matching.new.three free.new }
-{
-    let mask = near[zero] & *free;
-    if mask == 0 || matching.zero[zero].is_some() {
-        return;
-    }
-    let three = lowest(mask);
-    join(&mut matching.zero, &mut matching.three, zero, three);
-    *free = without_module(*free, three);
-}
-
-/// Joins links that are free and near each other, as far as it finds them: no contract says that it
-/// joins any. Those that have partners still have some.
-fn join_free(near: &Masks, matching: &mut Matching, modules: usize)
-    requires { modules ≤ MAX_MODULES }
-    ensures joins { JoinsNear near.now matching.old.zero matching.new.zero }
-    ensures zero { KeepsPartners matching.old.zero matching.new.zero }
-    ensures three { KeepsPartners matching.old.three matching.new.three }
-{
-    let mut free = free(&matching.three, modules);
-    for zero in 0..modules {
-        join_one(near, matching, zero, &mut free);
-    }
-}
 
 /// For how many settings a link 0 can be as it is: no longer than its pair has transfers, or so
 /// long that it has no more of them than there are settings left.
@@ -118,7 +85,7 @@ pub(crate) fn next_step(
     most: usize,
     modules: usize,
     longest: usize,
-    orders: TrialOrders,
+    order: TrialOrder,
 ) -> usize
     requires some { 0 < most }
     requires few { most ≤ MAX_TRANSFERS }
@@ -133,7 +100,7 @@ pub(crate) fn next_step(
         matching: chosen,
         reach,
         shorter: _,
-    } = choose(remaining, most, modules, longest, orders);
+    } = choose(remaining, most, modules, longest, order);
     *matching = chosen;
     join_free(&reach.zero.near, matching, modules);
     longest_hold(remaining, matching, most, modules)

@@ -10,7 +10,7 @@ ghost use Rattle.steady_schedule.specs.Steps.{CanHold};
 ghost use Rattle.steady_schedule.specs.Waiting.{HaveMost, NoneWait};
 
 use crate::heaviest::{Weights, heaviest_matching};
-use crate::masks::{TRIAL_ORDERS, with_module, without_module};
+use crate::masks::{TrialOrder, with_module, without_module};
 use crate::matching::{Matching, Partners, part};
 use crate::reach::Reach;
 use crate::remaining::{EndCounts, PAIRS, Remaining};
@@ -21,13 +21,14 @@ use link_graph::{has_module, lowest};
 /// How many pairs, and links that may be idle, a step of each length would use up.
 type Lengths = [u16; MAX_TRANSFERS + 1];
 
-/// The weight of a pair where it is joined.
+/// The weight of a pair where it is joined: of steps that use up as many, the one that joins more.
 const JOINED_WEIGHT: u32 = 1;
 
-/// What more where it is used up.
+/// What more where it is used up: more than all pairs have that are joined alone.
 const USED_UP_WEIGHT: u32 = 2000;
 
-/// What more for each link of it that has to be joined: more than all that.
+/// What more for each link of it that has to be joined: more than all that, since it isn't a step
+/// else.
 const NEEDED_WEIGHT: u32 = 1_000_000;
 
 /// Counts one more of a length, where that isn't 0.
@@ -203,7 +204,7 @@ fn weighed(
     ensures joined { IfSome result (λ m.
         JoinsNeeded remaining.now.counts m.zero m.three most settings) }
 {
-    let reach = Reach::of(remaining, most, modules, settings, TRIAL_ORDERS[0]);
+    let reach = Reach::of(remaining, most, modules, settings, TrialOrder::Rising);
     let worths = worths_of(remaining, &reach, most - settings, modules);
     let mut matching = heaviest_matching(&worths, modules, looks)?;
     part_some(&worths, &reach, &mut matching);

@@ -5,5 +5,5 @@ use Rattle.exchange_c.proofs.Writing.{left}
 use Rattle.exchange_c.proofs.exchange_plan.Goals as goal
 
 pub returns : goal.returns
-returns c = left _ (IsPlanned Plain widest c.args.batch.now) c.args.out.now c.leave.new.out c.leave.new.count c.leave.result c.answer_plan-answer.ensures
+returns c = left _ (IsPlanned Plain widest c.args.batch.now) c.args.out.now c.leave.new.out c.leave.new.count c.leave.result c.answer_plan-answer.ensures.planned
     c.leave.ensures.some c.leave.ensures.none

@@ -1,7 +1,7 @@
 //! Who comes to the gate while a batch is planned, and how often.
 
 use super::planning::plan_at;
-use super::texts::{FOUR_BY_FOUR, THREE_TRANSFERS, equal_transfers};
+use super::texts::{FOUR_BY_FOUR, ONE_PAIR, THREE_TRANSFERS, repeated};
 use exchange_limits::MAX_WORKERS;
 use schedule_certificate::Gate;
 use std::alloc::{AllocError, Global};
@@ -92,13 +92,14 @@ fn all_come<R: AllocGlobal + Threads + Sync>(rt: &R, text: &str, rows: &[Arrival
     true
 }
 
-/// Whether just those of a list come for a batch of so many equal transfers.
-fn all_come_to_equal<R: AllocGlobal + Threads + Sync>(
+/// Whether just those of a list come for a batch of these lines, so many times.
+fn all_come_to<R: AllocGlobal + Threads + Sync>(
     rt: &R,
-    count: usize,
+    lines: &[&str],
+    times: usize,
     rows: &[Arrivals],
 ) -> bool {
-    match equal_transfers(rt.alloc(), count) {
+    match repeated(rt.alloc(), lines, times) {
         Ok(text) => all_come(rt, text.as_str(), rows),
         Err(_) => false,
     }
@@ -124,7 +125,7 @@ const ONE_LEVEL: &[Arrivals] = &[
     (64, &[1, 33]),
 ];
 
-/// One use of each link, or none: nothing is halved.
+/// One use of each link, or none, or one link in all transfers: nothing is halved.
 const NO_LEVEL: &[Arrivals] = &[(64, &[])];
 
 #[test]
@@ -136,8 +137,10 @@ fn arrivals_of_parts(rt: HostRuntime) {
     assert!(rt; come);
 }
 
-/// Eight uses of a link by as many transfers: three levels of halves, of four transfers, two and
-/// one.
+/// Two pairs of links.
+const TWO_PAIRS: &[&str] = &["push 0 0 1 0\n", "push 2 0 3 0\n"];
+
+/// Eight uses of each pair's links: three levels of halves, of eight transfers, four and two.
 const THREE_LEVELS: &[Arrivals] = &[
     (1, &[]),
     (2, &[1, 2]),
@@ -147,7 +150,7 @@ const THREE_LEVELS: &[Arrivals] = &[
     (64, &[1, 1, 1, 9, 17, 17, 25, 33, 33, 33, 41, 49, 49, 57]),
 ];
 
-/// As many uses as workers: six levels, down to one worker and one transfer. On each level the
+/// As many uses as workers: six levels, down to one worker and a transfer of each pair. On each the
 /// halves begin with those whose numbers stand in a line: the halves have 32 workers, 16, 8, 4, 2
 /// and 1.
 const SIX_LEVELS: &[Arrivals] = &[(
@@ -167,9 +170,10 @@ const SIX_LEVELS: &[Arrivals] = &[(
 )];
 
 #[test]
-fn arrivals_of_equal_transfers(rt: HostRuntime) {
-    let come = all_come_to_equal(&rt, 2, ONE_LEVEL)
-        && all_come_to_equal(&rt, 8, THREE_LEVELS)
-        && all_come_to_equal(&rt, 64, SIX_LEVELS);
+fn arrivals_of_repeated_transfers(rt: HostRuntime) {
+    let come = all_come_to(&rt, TWO_PAIRS, 2, ONE_LEVEL)
+        && all_come_to(&rt, TWO_PAIRS, 8, THREE_LEVELS)
+        && all_come_to(&rt, TWO_PAIRS, 64, SIX_LEVELS)
+        && all_come_to(&rt, ONE_PAIR, 64, NO_LEVEL);
     assert!(rt; come);
 }

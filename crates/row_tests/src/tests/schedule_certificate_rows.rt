@@ -1,5 +1,5 @@
 use super::planning::{Plan, plan_at};
-use super::texts::{FIRST_FIT_LOSES, FOUR_BY_FOUR, THREE_BY_THREE, equal_transfers, read};
+use super::texts::{FIRST_FIT_LOSES, FOUR_BY_FOUR, ONE_PAIR, THREE_BY_THREE, read, repeated};
 use link_graph::Schedule;
 use schedule_certificate::{Gate, OpenGate, first_fit};
 use std::alloc::Global;
@@ -87,7 +87,7 @@ fn put_back_at_most<R: AllocGlobal + Threads + Sync>(
 
 /// Whether row largest-batch has a setting for each transfer, and none was put back.
 fn put_back_none_of_most<R: AllocGlobal + Threads + Sync>(rt: &R) -> bool {
-    match equal_transfers(rt.alloc(), 4096) {
+    match repeated(rt.alloc(), ONE_PAIR, 4096) {
         Ok(text) => put_back_at_most(rt, text.as_str(), 4096, 0),
         Err(_) => false,
     }

@@ -51,7 +51,7 @@ fn the_definitions_say_changes()
 const TWO_PARTNERS: &str = "batch 3\npush 0 0 1 0\npush 0 1 1 1\npush 0 2 2 0\n";
 
 /// How often a schedule changes the switch, and how many partners a link of the batch has.
-fn changes_by(
+pub(super) fn changes_by(
     alloc: Global,
     batch: &Batch,
     schedule: &Schedule,

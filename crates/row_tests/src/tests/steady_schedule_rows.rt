@@ -8,6 +8,7 @@ ghost use Rattle.row_tests.specs.Rows.{two_partners};
 ghost use Rattle.steady_schedule.specs.Changes.{changes};
 ghost use Rattle.steady_schedule.specs.Partners.{partners};
 
+use super::schedule_picture_rows::changes_by;
 use super::texts::read;
 use std::alloc::{AllocError, Global};
 use steady_schedule::steady;
@@ -62,11 +63,9 @@ fn counts_of(alloc: Global, sent: &[Sent]) -> Option<Counts> {
     let text = text_of(alloc, sent).ok()?;
     let batch = read(alloc, text.as_str())?;
     let plan = steady(alloc, &batch).ok()?;
-    let needed = match plan.most_partnered() {
-        Some((_, partners)) => partners,
-        None => 0,
-    };
-    Some((plan.schedule().settings(), plan.changes(), needed))
+    let (schedule, certificate) = (plan.schedule(), plan.certificate());
+    let (changes, partners) = changes_by(alloc, &batch, schedule, Some(certificate))?;
+    Some((schedule.settings(), changes, partners))
 }
 
 fn has(alloc: Global, sent: &[Sent], counts: Counts) -> bool {

@@ -59,11 +59,17 @@ push 2 3 1 2
 push 2 3 2 2
 ";
 
-/// The text of a batch of so many times `push 0 0 1 0`.
-pub fn equal_transfers(alloc: Global, count: usize) -> Result<String, AllocError> {
+/// A transfer of one pair of links.
+pub const ONE_PAIR: &[&str] = &["push 0 0 1 0\n"];
+
+/// The text of a batch of these lines, so many times.
+pub fn repeated(alloc: Global, lines: &[&str], times: usize) -> Result<String, AllocError> {
+    let count = lines.len().saturating_mul(times);
     let mut text = format!(in alloc; "batch {count}\n")?;
-    for _ in 0..count {
-        text.push_str("push 0 0 1 0\n")?;
+    for _ in 0..times {
+        for line in lines {
+            text.push_str(line)?;
+        }
     }
     Ok(text)
 }

@@ -3,7 +3,7 @@ use Rattle.client_session.proofs.answering.plan.Goals as goal
 
 pub returns-in-Ok-clause-done : goal.returns-in-Ok-clause-done
 returns-in-Ok-clause-done g c = settled_or _ _ _ c.args.id c.in-Fetched.batch c.in-Ok.planned _ c.call-in-Ok.result
-    (rw c.in-Fetched.is at c.in_ok-reply.ensures.ok) c.in-Ok.ensures.plan c.in-Ok.ensures.batch c.call-in-Ok.ensures.done
+    (rw c.in-Fetched.is at c.in_ok-reply.ensures.ok) c.in-Ok.ensures.batch c.call-in-Ok.ensures.done
 
 pub returns-in-Err-clause-done : goal.returns-in-Err-clause-done
 returns-in-Err-clause-done g c = unplanned _ _ c.args.id c.in-Fetched.batch _ (rw c.in-Fetched.is at c.in_ok-reply.ensures.ok) c.refuse.ensures

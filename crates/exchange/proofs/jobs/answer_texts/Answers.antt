@@ -4,7 +4,7 @@ use Rattle.exchange.proofs.jobs.answer_texts.Goals as goal
 pub returns-in_ok-answer_plan-in-Plan : goal.returns-in_ok-answer_plan-in-Plan
 returns-in_ok-answer_plan-in-Plan g c =
     let files = contents_in c.args.contents.now in
-    rw c.in-Plan.is (rw c.alone.ensures (rw c.text_of-list.ensures at c.in_ok-answer_plan-in-Plan.ensures))
+    rw c.in-Plan.is (rw c.alone.ensures (rw c.text_of-list.ensures at c.in_ok-answer_plan-in-Plan.ensures.planned))
 
 pub returns-in_ok-answer_check-in-Check : goal.returns-in_ok-answer_check-in-Check
 returns-in_ok-answer_check-in-Check g c =

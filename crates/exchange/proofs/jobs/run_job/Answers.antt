@@ -3,7 +3,7 @@ use Rattle.std.proofs.KnownBytes.{Appends-nil}
 use Rattle.exchange.specs.Outcomes.{IsUnanswered}
 use Rattle.named_files.specs.Clients.{clients_by, ends_of}
 use Rattle.named_files.specs.Contents.{contents_in}
-use Rattle.exchange.specs.Responses.{IsJobCut, given_by}
+use Rattle.exchange.specs.Responses.{IsJobCut, given_by, named_by}
 use Rattle.exchange.proofs.Comes.{always, err_finished, finish, none_of, refused_so, so_where_ok}
 use Rattle.exchange.proofs.Told.{beside_of, none_served}
 use Rattle.exchange.proofs.jobs.run_job.Goals as goal
@@ -24,7 +24,7 @@ returns-in-Err g c =
         Appends-nil _,
         tt,
         refused_so c.in-Err.missed (IsUnanswered was was ends)
-            (IsJobCut (g.S.System.holds c.args.system.now) given c.args.request.now.job was ends) [] c.in-Err.ensures.note
+            (IsJobCut (named_by (g.S.System.holds c.args.system.now) (g.S.PathLookup.leads c.args.system.now)) given c.args.request.now.job was ends) [] c.in-Err.ensures.note
             (refl, refl, none_served _ c.requires.unserved),
       );
       note = none_of c.in-Err.missed c.in-Err.ensures.note;
@@ -40,12 +40,14 @@ returns g c =
     let held = c.run_job_on-end in
     let files = contents_in c.in-Ok.read.1 in
     let rest = g.I.Read.remaining c.read_opened.new.input in
+    let named = named_by (g.S.System.holds c.args.system.now) (g.S.PathLookup.leads c.args.system.now) in
+    let apart = so_where_ok c.open_distinct-outputs.result.1 _ c.in-Ok.ensures.opened c.open_distinct-outputs.ensures.apart in
     record {
-      response = finish held.result.end c.finished.result _ _ (g.S.System.holds c.args.system.now) g.S.System.received c.args.request.now.job files rest given
+      response = finish held.result.end c.finished.result _ _ named g.S.System.received c.args.request.now.job files rest given
           (g.P.Ports.ways held.new.peers.ports) (ends_of held.new.peers.endings.items) held.result.receipts held.result.lost
-          c.finished.ensures.answer c.in-Ok.ensures.contents held.ensures.response;
+          c.finished.ensures.answer apart c.in-Ok.ensures.contents held.ensures.response;
       note = c.finished.ensures.note;
       beside = beside_of _ _ c.args.request.now _ _ (λ overlap. (files, rest, c.in-Ok.ensures.contents, overlap)) held.ensures.beside;
-      apart = always c.finished.result _ (so_where_ok c.open_distinct-outputs.result.1 _ c.in-Ok.ensures.opened c.open_distinct-outputs.ensures.apart);
+      apart = always c.finished.result _ apart;
       unkept = err_finished held.result.end held.result.lost c.finished.result _ c.finished.ensures.answer held.ensures.unkept;
     }

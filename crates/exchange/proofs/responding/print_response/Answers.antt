@@ -54,7 +54,7 @@ returns-in-Ok-clause-done g c =
     asked c.print_failure.result named keeps none_left _ given c.in-Ok.request streams c.in-Ok.ensures.request
     (not_answered c.print_failure.result named keeps given c.in-Ok.request t.0 c.in-Err-end.missed
     (IsUnanswered (g.P.Ports.ways c.args.peers.now.ports) (g.P.Ports.ways c.run_job-end.new.peers.ports) ends)
-    (IsJobCut (g.S.System.holds c.args.system.now) given c.in-Ok.request.job (g.P.Ports.ways c.run_job-end.new.peers.ports) ends) _ _ _ _ _ _ t.1 t.3
+    (IsJobCut named given c.in-Ok.request.job (g.P.Ports.ways c.run_job-end.new.peers.ports) ends) _ _ _ _ _ _ t.1 t.3
     (λ none. (none.0, λ end. (unkept, sym none.1, sym none.2))) note c.run_job-end.ensures.beside c.print_failure.ensures.printed
     c.print_failure.ensures.told)
 

@@ -1,5 +1,5 @@
 use Rattle.std.proofs.Common.{rules}
-use Rattle.exchange.proofs.Forewarned.{warning_by, wide_by}
+use Rattle.exchange.proofs.Forewarned.{warning_by, high_by}
 use Rattle.exchange.proofs.warnings.warning_of.Goals as goal
 
 pub returns-in-Plan : goal.returns-in-Plan
@@ -10,5 +10,5 @@ returns-in-Switch c = rw (c.requires.job, c.in-Switch.is) c.overlap_warning_of-i
 
 pub returns-in-Draw : goal.returns-in-Draw
 returns-in-Draw c =
-    rw (c.requires.job, c.in-Draw.is) (warning_by _ c.args.request.now c.wide_line.result (search rules) c.wide_line.ensures.whole
-    (wide_by _ c.args.answer.now c.wide_line.result (rw c.in-Draw.is at c.requires.answer) (rw c.text.ensures at c.wide_line.ensures.wide)))
+    rw (c.requires.job, c.in-Draw.is) (warning_by _ c.args.request.now c.high_line.result (search rules) c.high_line.ensures.whole
+    (high_by _ c.args.answer.now c.high_line.result (rw c.in-Draw.is at c.requires.answer) (rw c.text.ensures at c.high_line.ensures.high)))

@@ -15,8 +15,8 @@ write-requires g c =
     let says = plan_can_say Steady plan.batch plan.settings plan.named fits its.steady in
     record { settings = rw c.schedule.ensures.schedule says.settings_fit; named = rw c.certificate.ensures.certificate says.names_fit }
 
-pub returns-in_ok-plan-in-Steady : goal.returns-in_ok-plan-in-Steady
-returns-in_ok-plan-in-Steady g c =
+pub returns-in_ok-plan-in-Steady-clause-says : goal.returns-in_ok-plan-in-Steady-clause-says
+returns-in_ok-plan-in-Steady-clause-says g c =
     let plan = c.in_ok-plan-in-Steady.plan in
     let its = c.in_ok-plan-in-Steady.ensures in
     let fits : IsBatch plan.batch = rw (its.batch, ← c.batch.view_is) c.batch.invariant in

@@ -7,6 +7,7 @@ use Rattle.batch_book.specs.Machine.{IsMachineStep}
 use Rattle.batch_book.specs.Replies.{is_logged}
 use Rattle.batch_book.proofs.Answering.{replied, sound}
 use Rattle.record_replay.proofs.Entries.{no_stranger}
+use Rattle.record_replay.proofs.Steps.{step_seen}
 use Rattle.record_replay.proofs.asking.ask.Goals as goal
 
 pub unreachable-requires : goal.unreachable-requires
@@ -26,3 +27,9 @@ returns-in_default-clause-answers g c =
     let shape : IsShape old.machine.store.shape = subst (λ s. IsShape s.shape) c.rack.ensures c.shape-shape.ensures.whole.within in
     replied old c.args.session c.args.call c.apply-reply.result c.apply-reply.new.self (sound old.opening old.history old.machine shape c.log.ensures.replay)
     c.apply-reply.ensures.grown
+
+pub returns-in_default-clause-step : goal.returns-in_default-clause-step
+returns-in_default-clause-step g c =
+    let old = c.args.book.now in
+    step_seen old.machine c.args.session c.args.call c.apply-reply.result c.apply-reply.new.self.machine (search rules)
+    (c.apply-reply.ensures.grown (search rules)).step

@@ -2,7 +2,7 @@ use Rattle.std.proofs.Common.{None, ap, arith, refl, rules, subst, sym}
 use Rattle.std.specs.Prelude.{option_map}
 use Rattle.record_replay.specs.declared.fault.RecordFault.{RecordFault}
 use Rattle.record_replay.specs.Replays.{IsWrongAt, no_call, other_reply}
-use Rattle.record_replay.proofs.Entries.{going_on, reply_at, said_wrong}
+use Rattle.record_replay.proofs.Entries.{going_on, replayed_so, reply_at, said_wrong}
 use Rattle.record_replay.proofs.replaying.replay.Goals as goal
 
 pub returns-in-Err-clause-wrong : goal.returns-in-Err-clause-wrong
@@ -34,6 +34,22 @@ returns-in-Err-Reply-clause-wrong g c = λ other.
     (other_reply c.in-Ok-Entry.body.now c.in-Ok-Entry.more.now c.in-Err-Reply.replied.now c.in-Err-Reply.due.items next.0 reply refl refl refl)
     (reply_at c.args.limit l.entries _ l.book.machine c.args.text.now _ l.rest.now c.in-Ok-Entry.body.now c.in-Ok-Entry.more.now c.in-Err-Reply.replied.now
     c.in-Err-Reply.due.items l.invariant.front next.0 reply (search rules)) (search rules)
+
+pub returns-in-Ok-End-clause-remade : goal.returns-in-Ok-End-clause-remade
+returns-in-Ok-End-clause-remade g c =
+    let l = c.loop-entries in
+    record {
+      replayed = replayed_so c.args.limit c.args.text.now c.args.rack l.entries l.book l.rest.now l.invariant c.log.ensures.replay;
+      ends = search rules;
+    }
+
+pub returns-clause-remade : goal.returns-clause-remade
+returns-clause-remade g c =
+    let l = c.loop-entries in
+    record {
+      replayed = replayed_so c.args.limit c.args.text.now c.args.rack l.entries l.book l.rest.now l.invariant c.log-2.ensures.replay;
+      ends = search rules;
+    }
 
 pub loop-entries-preserved : goal.loop-entries-preserved
 loop-entries-preserved g c =

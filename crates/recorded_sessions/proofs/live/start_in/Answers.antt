@@ -26,6 +26,7 @@ returns-in-Err-write_front-clause-unstarted g c =
       unstarted_file g.S.Stream.Write.contents g.S.System.received c.args.out.name.now c.args.resumes c.args.rack c.args.names.now c.in-Ok.begun.book held
           c.as_slice-2.result.now c.in-Ok.begun.head.items c.as_slice-3.result.now c.in-Ok.begun.kept _ end.result.receipt c.as_slice-2.ensures.value
           c.as_slice-3.ensures.value
+          c.in-Ok.ensures.on.0
           (rw c.as_slice.ensures.value at c.in-Ok.ensures.begins) (rw c.as_slice.ensures.value at c.in-Ok.ensures.front) c.in-Ok.ensures.new
           (c.in-Err-write_front.ensures.cut c.args.out.name.now (c.requires.contents ∙ ap Some (sym c.as_slice-2.ensures.value))) end.ensures.receipt,
     )
@@ -40,5 +41,10 @@ write_front-requires-clause-held g c = λ lifetimes bounds.
 pub returns-in-Ok-write_front-clause-started : goal.returns-in-Ok-write_front-clause-started
 returns-in-Ok-write_front-clause-started g c =
     let begun = c.requires.contents ∙ ap Some (sym c.as_slice-2.ensures.value) in
-    let front = rw (c.as_slice-2.ensures.value, c.as_slice-3.ensures.value) at (c.in-Ok-write_front.ensures.written c.args.out.name.now begun) in
-    (rw c.as_slice.ensures.value at c.in-Ok.ensures.begins, c.in-Ok.ensures.ready, refl, front ∙ ap Some (rw c.as_slice.ensures.value at c.in-Ok.ensures.front))
+    let front = rw (c.as_slice-2.ensures.value, c.as_slice-3.ensures.value) at (c.in-Ok-write_front.ensures.written c.args.out.name.now begun) in (
+      rw c.as_slice.ensures.value at c.in-Ok.ensures.begins,
+      c.in-Ok.ensures.on,
+      c.in-Ok.ensures.ready,
+      refl,
+      front ∙ ap Some (rw c.as_slice.ensures.value at c.in-Ok.ensures.front),
+    )

@@ -8,9 +8,8 @@ returns-in-Ok-clause-resumed g c = (
   record {
     text = c.in-Some.text.now;
     rest = c.in-Ok.field-0.rest.now;
+    left = c.in-Ok.field-0.book.machine;
     held_is = rw c.as_slice.ensures.value at c.in-Some.ensures;
-    is_opening =
-        c.in-Ok.ensures.opening;
     remade = c.in-Ok.ensures.remade;
   },
   search rules,

@@ -4,7 +4,7 @@ use Rattle.link_graph.specs.Marks.{members}
 use Rattle.euler_split.specs.Evenness.{CanBeHalved}
 use Rattle.schedule_certificate.specs.Parts.{IsPart, IsDegreeKnown, AreHalves}
 use Rattle.schedule_certificate.proofs.Levels.{one_at, leaf}
-use Rattle.schedule_certificate.proofs.Parts.{cut, both_steps, single_matching, left_part, right_part, both_less, both_lengths, known_halves}
+use Rattle.schedule_certificate.proofs.Parts.{same_degree, cut, both_steps, single_matching, left_part, right_part, both_less, both_lengths, known_halves}
 use Rattle.schedule_certificate.proofs.halving.+colour_halves.Goals as goal
 
 pub one_with_room-requires-clause-matching : goal.one_with_room-requires-clause-matching
@@ -176,3 +176,15 @@ returns-clause-cost t c k few =
       c.degree_of-degree.ensures.cost,
       c.halve_known-middle.ensures.cost,
     ))
+
+pub returns-then-degree-eq2-clause-shared : goal.returns-then-degree-eq2-clause-shared
+returns-then-degree-eq2-clause-shared t c one = absurd (omega (arith, c.if-degree-part.false, same_degree _ _ _ c.degree_of-degree.ensures.degree one))
+
+pub returns-in_err-left-clause-shared : goal.returns-in_err-left-clause-shared
+returns-in_err-left-clause-shared t c one = absurd (omega (arith, c.if-degree-part.false, same_degree _ _ _ c.degree_of-degree.ensures.degree one))
+
+pub returns-in_err-right-clause-shared : goal.returns-in_err-right-clause-shared
+returns-in_err-right-clause-shared t c one = absurd (omega (arith, c.if-degree-part.false, same_degree _ _ _ c.degree_of-degree.ensures.degree one))
+
+pub returns-clause-shared : goal.returns-clause-shared
+returns-clause-shared t c one = absurd (omega (arith, c.if-degree-part.false, same_degree _ _ _ c.degree_of-degree.ensures.degree one))

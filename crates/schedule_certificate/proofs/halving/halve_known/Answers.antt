@@ -6,6 +6,9 @@ use Rattle.schedule_certificate.proofs.halving.halve_known.Goals as goal
 pub split_evenly-requires-clause-even : goal.split_evenly-requires-clause-even
 split_evenly-requires-clause-even c u v i lt = c.requires.times u v i (omega (arith, lt, c.if-times-eq0.false))
 
+pub returns-then-times-eq0-clause-halves : goal.returns-then-times-eq0-clause-halves
+returns-then-times-eq0-clause-halves c = halves_of_split _ _ _ _ c.split_in_place.ensures.split
+
 pub returns-clause-halves : goal.returns-clause-halves
 returns-clause-halves c = halves_of_split _ _ _ _ c.split_evenly.ensures.split
 

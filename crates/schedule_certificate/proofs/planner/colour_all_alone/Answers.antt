@@ -2,7 +2,7 @@ use Rattle.std.proofs.Common.{◌^◌, List, length, ap, ◌∙◌, sym, subst, 
 use Rattle.std.proofs.lemmas.List.FromFn.{length-range_with_len}
 use Rattle.batch.specs.declared.transfer.Transfer.{Transfer}
 use Rattle.schedule_certificate.specs.Parts.{IsDegree}
-use Rattle.schedule_certificate.proofs.Levels.{degree_fits}
+use Rattle.schedule_certificate.proofs.Levels.{one_at, degree_fits}
 use Rattle.schedule_certificate.proofs.Whole.{all_part, all_members, all_coloured, colours_fit}
 use Rattle.schedule_certificate.proofs.planner.colour_all_alone.Goals as goal
 
@@ -38,7 +38,7 @@ returns-clause-cost c k low =
     let fits = degree_fits c.args.graph.now c.degree_of_all.result (2 ^ k) c.degree_of_all.ensures low in
     let took = rw (c.deref_mut.ensures.value, c.in_ok-all.ensures.all, length-range_with_len 0 (length c.args.graph.now))
     at (c.colour_alone.ensures.cost k fits) in
-    let table = colours_fit c.args.graph.now c.in_ok-table.table k low (rw (c.deref_mut.ensures.value, c.in_ok-all.ensures.all)
+    let table = colours_fit c.args.graph.now c.in_ok-table.table (2 ^ k) (one_at k) low (rw (c.deref_mut.ensures.value, c.in_ok-all.ensures.all)
     at c.in_ok-table.ensures.coloured) in
     omega (
       arith,
@@ -57,7 +57,7 @@ returns-in_err-coloured-clause-cost c k low =
     let fits = degree_fits c.args.graph.now c.degree_of_all.result (2 ^ k) c.degree_of_all.ensures low in
     let took = rw (c.deref_mut.ensures.value, c.in_ok-all.ensures.all, length-range_with_len 0 (length c.args.graph.now))
     at (c.colour_alone.ensures.cost k fits) in
-    let table = colours_fit c.args.graph.now c.in_ok-table.table k low (rw (c.deref_mut.ensures.value, c.in_ok-all.ensures.all)
+    let table = colours_fit c.args.graph.now c.in_ok-table.table (2 ^ k) (one_at k) low (rw (c.deref_mut.ensures.value, c.in_ok-all.ensures.all)
     at c.in_ok-table.ensures.coloured) in
     omega (
       arith,

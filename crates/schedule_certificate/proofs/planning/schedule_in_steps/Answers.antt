@@ -12,3 +12,15 @@ returns-clause-cost g c k low =
     let took = rw same at (c.colour_all.ensures.cost k (rw same low)) in
     let rest = rw same at c.planned_by.ensures.cost in
     omega (arith, took, rest, c.of_in_steps.ensures.cost)
+
+pub returns-in_err-coloured-clause-shared : goal.returns-in_err-coloured-clause-shared
+returns-in_err-coloured-clause-shared g c one =
+    let took = rw c.in_ok-graph.ensures.graph at (c.colour_all.ensures.shared (rw c.in_ok-graph.ensures.graph one)) in
+    omega (arith, took, c.of_in_steps.ensures.cost)
+
+pub returns-clause-shared : goal.returns-clause-shared
+returns-clause-shared g c one =
+    let same = c.in_ok-graph.ensures.graph in
+    let took = rw same at (c.colour_all.ensures.shared (rw same one)) in
+    let rest = rw same at c.planned_by.ensures.cost in
+    omega (arith, took, rest, c.of_in_steps.ensures.cost)

@@ -6,19 +6,20 @@ use Rattle.schedule_picture.proofs.cells.push_cell.Goals as goal
 pub returns : goal.returns
 unfolding cell_text
 returns c =
-    five c.write.result _ _ _ _ _ _ _ _ _ _ _ (cell_text c.args.rows.now c.args.column c.args.number c.args.transfer.now c.args.end)
+    five c.push_number.result _ _ _ _ _ _ _ _ _ _ _ (cell_text c.args.rows.now c.args.column c.args.number c.args.transfer.now c.args.end)
     c.in_ok-push_title.ensures
     c.in_ok-push_coloured.ensures
     c.in_ok-push_text_start.ensures
-    c.in_ok-push_str.ensures.bytes
-    c.write.ensures.bytes
+    c.in_ok-write.ensures.bytes
+    c.push_number.ensures
     (simp (
       append_assoc,
-      c.arrow.ensures,
+      c.arrow-arrow.ensures,
       c.module_at-partner.ensures,
       c.other.ensures,
       c.column_left-left.ensures.value,
       c.top.ensures.value,
+      c.panel.ensures,
       c.module_at.ensures,
       c.half_below.ensures.value,
     ))

@@ -18,4 +18,4 @@ returns c =
     let cells : string_bytes c.loop-number.text ≡ string_bytes c.write.new.self ++ flat_map (transfer_cells c.args.rows.now c.args.column) c.args.numbers.now =
     rw all at c.loop-number.invariant in
     both _ _ _ _ _ (column_text c.args.rows.now c.args.column c.args.setting c.args.numbers.now) c.in_ok-write.ensures.bytes cells
-    (simp (append_assoc, c.column_left.ensures.value))
+    (simp (append_assoc, c.column_left.ensures.value, c.panel_top.ensures.value, c.panel.ensures))

@@ -6,7 +6,7 @@ use Rattle.schedule_picture.proofs.rows_text.push_label.Goals as goal
 pub returns : goal.returns
 unfolding label_text
 returns c =
-    three c.write.result _ _ _ _ _ _ _ (label_text c.args.«module» c.args.left c.args.top)
+    three c.write.result _ _ _ _ _ _ _ (label_text c.args.«module» c.args.top)
     c.in_ok-push_coloured.ensures
     c.in_ok-push_text_start.ensures
     c.write.ensures.bytes

@@ -10,4 +10,4 @@ returns c =
     c.in_ok-push_label.ensures
     c.in_ok-push_half.ensures
     c.push_half-2.ensures
-    (simp (append_assoc, c.panel_left.ensures.value, c.top.ensures.value))
+    (simp (append_assoc, c.top.ensures.value))

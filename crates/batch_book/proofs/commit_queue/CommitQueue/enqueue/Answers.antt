@@ -20,7 +20,7 @@ drain_into-requires-clause-first g c =
     let was = c.args.self.now in
     let own = c.compare-its.ensures.list ∙ ap (λ s. notes_of s was.keeper.history) c.requires.side in
     let known = ap (side_lists g.L.ExchangeName.earlier) own ∙ was.known in
-    let grown = c.requires.grown ∙ ap (λ l. l ++ made_in (note c.args.session c.args.place c.args.call.value c.args.reply.now ∷ [])) (ap (λ x. x.0) known) in
+    let grown = c.requires.grown ∙ ap (λ l. l ++ made_in (note c.args.asked.session c.args.place c.args.asked.call.value c.args.reply.now ∷ [])) (ap (λ x. x.0) known) in
     subst (λ l. IsPrefix l c.args.book.now.history) (sym (c.requires.durable ∙ ap (λ x. x.1) known)) (starts_then _ _ _ was.first (starts _ _ _ grown))
 
 pub drain_into-requires-clause-many : goal.drain_into-requires-clause-many
@@ -35,7 +35,7 @@ invariant_of-self g c =
     let was = c.args.self.now in
     let h = was.keeper.history in
     let earlier = g.L.ExchangeName.earlier in
-    let m = note c.args.session c.args.place c.args.call.value c.args.reply.now in
+    let m = note c.args.asked.session c.args.place c.args.asked.call.value c.args.reply.now in
     let own = c.compare-its.ensures.list ∙ ap (λ s. notes_of s h) c.requires.side in
     let known = ap (side_lists earlier) own ∙ was.known in
     let queued = c.requires.durable ∙ ap (λ x. x.1) known in
@@ -45,8 +45,8 @@ invariant_of-self g c =
     let first = c.add-own.ensures.history ∙ (λ i. (c.compare-its.ensures.same.0 i).history ++ c.of.ensures i ∷ []) in
     let side = c.side-note.ensures ∙ (λ i. side_note BOOK_SIDE 0 (seen i) ((ap (λ s. s.value) c.of-2.ensures ∙ e.queued) i)) in
     let grown = c.add-its.ensures.history ∙ (λ i. first i ++ side i ∷ []) in
-    let all = c.requires.grown ∙ ap (λ l. l ++ entry c.args.session c.args.call.value c.args.reply.now ∷ []) (ap (λ x. x.0) known) in
-    let k = called g.E.PendingEntries.texts earlier h _ c.args.session c.args.place c.args.call.value c.args.reply.now was.queued.value now
+    let all = c.requires.grown ∙ ap (λ l. l ++ entry c.args.asked.session c.args.asked.call.value c.args.reply.now ∷ []) (ap (λ x. x.0) known) in
+    let k = called g.E.PendingEntries.texts earlier h _ c.args.asked.session c.args.place c.args.asked.call.value c.args.reply.now was.queued.value now
     c.args.book.now.history was.count _ was.front was.text.items _
     record {
       placed = was.placed;

@@ -1,7 +1,7 @@
 use Rattle.std.proofs.Common.{◌≡◌, true, get_or, rules}
 use Rattle.link_graph.specs.Masks.{has_pair}
 use Rattle.steady_schedule.proofs.Searching.{both_bits}
-use Rattle.steady_schedule.proofs.stepping.join_one.Goals as goal
+use Rattle.steady_schedule.proofs.matching.join_one.Goals as goal
 
 pub join-requires-clause-y_free : goal.join-requires-clause-y_free
 join-requires-clause-y_free c = c.requires.free c.lowest-three.result (both_bits (get_or c.args.near.now c.args.zero 0) c.args.free.now c.lowest-three.result

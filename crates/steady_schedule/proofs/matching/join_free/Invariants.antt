@@ -1,6 +1,6 @@
 use Rattle.steady_schedule.specs.Covers.{AreFree, KeepsPartners}
 use Rattle.steady_schedule.specs.Searches.{JoinsNear}
-use Rattle.steady_schedule.proofs.stepping.join_free.Given as goal
+use Rattle.steady_schedule.proofs.matching.join_free.Given as goal
 
 abbrev pub invariant-loop-zero : goal.invariant-loop-zero
 invariant-loop-zero l = record {

@@ -31,7 +31,7 @@ hands bytes to one of these, no other may use it.
 
 import ctypes
 import os
-from typing import Iterable, List, Mapping, NamedTuple, Optional, Sequence, Tuple, Union
+from typing import Any, Iterable, List, Mapping, NamedTuple, Optional, Sequence, Tuple, Union
 
 __version__ = "1.0.0"
 
@@ -499,10 +499,10 @@ class LinkEnd:
         return bytes(self._state)
 
     def __copy__(self) -> "LinkEnd":
-        return LinkEnd(self._memory, self._base, self.state)
+        return LinkEnd(self._memory, self._base, self.state)  # type: ignore[arg-type]
 
 
-def _state_of(kind, state: bytes):
+def _state_of(kind: Any, state: bytes) -> Any:
     """A structure of these bytes."""
     if len(state) != ctypes.sizeof(kind):
         raise ValueError(f"a state has {ctypes.sizeof(kind)} bytes")
@@ -510,11 +510,12 @@ def _state_of(kind, state: bytes):
 
 
 def _load() -> ctypes.CDLL:
-    """The library that was installed with this file,
-    or else the one that the system's loader finds."""
+    """The library that is in this package, as in a wheel, or that was installed with it, or else
+    the one that the system's loader finds."""
     name = "libexchange.so." + __version__.split(".")[0]
-    beside = os.path.join(os.path.dirname(os.path.realpath(__file__)), "..", "..", name)
-    library = ctypes.CDLL(beside if os.path.exists(beside) else name)
+    here = os.path.dirname(os.path.realpath(__file__))
+    ways = (os.path.join(here, way, name) for way in (".", "../../.."))
+    library = ctypes.CDLL(next((it for it in ways if os.path.exists(it)), name))
     for name, texts in {
         "plan": 1,
         "plan_steady": 1,
@@ -606,7 +607,7 @@ def _why(call: str, given: Sequence[bytes], names: Mapping[str, Name] = {}) -> s
     return line.decode().rstrip("\n") if status == _DONE else ""
 
 
-def _in_room(call, words, room: int) -> Tuple[int, bytes]:
+def _in_room(call: Any, words: Sequence[Any], room: int) -> Tuple[int, bytes]:
     """The status and the answer of a call, which is made once more
     where it finds too little room."""
     count, status = ctypes.c_size_t(room), _NO_ROOM
