@@ -45,9 +45,9 @@ THREE_TRANSFERS = "batch 3\npush 0 0 1 0\npush 0 1 2 0\npush 1 1 2 1\n"
 SCHEDULE = "settings 2\nsetting 0 2\nsetting 1\nbusiest link 0 module 0\nnamed 0 1\n"
 TWO_PUSHES = "batch 2\npush 0 0 1 0\npush 1 1 2 0\n"
 LONG = "settings 3\nsetting 0\nsetting 1\nsetting 2\nbusiest link 0 module 0\nnamed 0 1\n"
-EACH = "settings 2\nsetting 0\nsetting 1\n"
+EACH = "settings 2\nsetting 0\nsetting 1 2\n"
 SWAP = "batch 2\npush 0 0 1 0\npush 1 0 0 0\n"
-WIDE = "batch 2\npush 16 0 0 0\npush 16 1 1 0\n"
+WIDE = "batch 3\npush 16 0 0 0\npush 16 1 1 0\npush 2 0 3 0\n"
 NINE = "batch 9\n" + "".join(
     f"push {module} 3 {other} {module}\n" for module in range(3) for other in range(3)
 )

@@ -83,9 +83,9 @@ IDLE = ["batch 3", "push 0 0 1 0", "push 0 1 1 1", "push 2 0 3 0"]
 
 # What planning says where instructions can't be counted.
 LACKS, PLANNED = (
-    "planning: valgrind is missing, so no instructions were counted\n" + "steps, at most\n" * 10
-    + "steps: 18 figures compared\n",
-    "planning: 29 batches planned, 74 figures judged\n",
+    "planning: valgrind is missing, so no instructions were counted\n" + "steps, at most\n" * 24
+    + "steps: 48 figures compared\n",
+    "planning: 32 batches planned, 80 figures judged\n",
 )
 
 # What comes of a line of a row, on both streams.

@@ -552,7 +552,8 @@ def try_pages(rack):
         options = re.findall(r"(?m)^ +(?:-\w, )?(--[\w-]+)", helps[name])
         words = [*SHELLS[shell], f"{rack}/share/{COMPLETIONS[shell]}", "exchange", name, "--"]
         told = run(shell, *words, cwd=rack)[1]
-        found = re.findall(r"(?m)^--[\w-]+", told) if shell in BETWEEN else told.split()
+        after = BETWEEN.get(shell, "")
+        found = re.findall(rf"(?:^|\s)(--[\w-]+){after}", told)
         is_all = len(options) > 1 and {*found} == {*options}
         expect(f"{shell} completes each option of {name}", is_all, f"{told}\n{options}")
 

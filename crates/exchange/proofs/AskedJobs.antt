@@ -331,14 +331,14 @@ module _ {C : Type 0} (received : C → Closed) (receipts : Receipts C) (ends : 
 
 -- ---- a promise about a run
 
-pub kept : {X E : Type 0} (C P : X → Type 0) (r : Result X E) (words : X → List Text) (named : Named) (keeps : Keeping) (none : Type 0) (given : Given)
+pub kept : {X E : Type 0} (B C P : X → Type 0) (r : Result X E) (words : X → List Text) (named : Named) (keeps : Keeping) (none : Type 0) (given : Given)
     (streams : Streams) (code : ℕ)
-    → ((w : X) → EndsSo (record { words = words w; named = named; keeps = keeps; none = none; given = given; streams = streams; code = code }) → P w)
-    → ((w : X) → code ≡ UNWRITTEN → C w → P w)
-    → IfOk r (λ w. ((code ≡ UNWRITTEN) × C w) ⊎ IsEndForArguments named keeps none (words w) given streams code) → IfOk r P
-kept C P (Err error) words named keeps none given streams code so unwritten is = tt
-kept C P (Ok w) words named keeps none given streams code so unwritten (inl cut) = unwritten w cut.0 cut.1
-kept C P (Ok w) words named keeps none given streams code so unwritten (inr ends) = so w ends
+    → ((w : X) → EndsSo (record { words = words w; named = named; keeps = keeps; none = none; given = given; streams = streams; code = code }) → B w → P w)
+    → ((w : X) → code ≡ UNWRITTEN → C w → B w → P w)
+    → IfOk r (λ w. ((code ≡ UNWRITTEN) × C w) ⊎ IsEndForArguments named keeps none (words w) given streams code) → IfOk r B → IfOk r P
+kept B C P (Err error) words named keeps none given streams code so unwritten is beside = tt
+kept B C P (Ok w) words named keeps none given streams code so unwritten (inl cut) beside = unwritten w cut.0 cut.1 beside
+kept B C P (Ok w) words named keeps none given streams code so unwritten (inr ends) beside = so w ends beside
 
 -- then all was written, and the status is that of an end
 below : (e : JobEnd) → EndsSo e → UNWRITTEN ≤ e.code → ⊥

@@ -6,7 +6,7 @@ use Rattle.std.specs.List.{AllByRecursion}
 use Rattle.std.proofs.lemmas.Bool.{false≢true}
 use Rattle.std.proofs.lemmas.List.Elements.{recursion_from_All}
 use Rattle.clap.specs.Words.{Text}
-use Rattle.command_words.specs.Jobs.{AskFor, Files, MayHaveName, file, file_uses, files_beside, files_of, files_read, input_name, kept_files, recorded_in}
+use Rattle.command_words.specs.Jobs.{AskFor, Files, MayHaveName, all_files, clients_of as names_of, file, file_uses, files_beside, files_of, files_read, input_name, kept_files, recorded_in}
 use Rattle.command_words.specs.declared.jobs.Job.{Job}
 use Rattle.command_words.specs.declared.jobs.Job.TheVariants.{Texts, Ports as OverPorts, Sessions}
 use Rattle.command_words.specs.declared.jobs.TextJob.{TextJob}
@@ -29,7 +29,7 @@ use Rattle.exchange.proofs.EndStatuses.{IsEither, gave_up, given_up, never_done}
 use Rattle.exchange.proofs.HeldFiles.{alone, earlier, held_files, pass}
 use Rattle.exchange.proofs.PromisedCalls.{Had, behind, before, clients_come, kept_named, live_unbegun, none_begun, scripts_come, scripts_unbegun, talk_comes}
 use Rattle.exchange.proofs.PromisedDrives.{DroveOr, cut_so, drove_so}
-use Rattle.exchange.proofs.PromisedOthers.{all_left, cut_nothing, cut_others, keeps_nothing, keeps_others}
+use Rattle.exchange.proofs.PromisedOthers.{all_left, cut_nothing, cut_others, idle_so, keeps_nothing, keeps_others, opened_so, unread_so}
 use Rattle.exchange.proofs.PromisedPictures.{drawn_so, priced_so}
 use Rattle.exchange.proofs.PromisedPlans.{checked, directed, planned}
 use Rattle.exchange.proofs.PromisedRefusals.{wrong_of}
@@ -40,11 +40,12 @@ use Rattle.exchange.proofs.PromisedSwitches.{ordered, switched_so}
 use Rattle.exchange.specs.Drives.{names_in}
 use Rattle.exchange.specs.Ends.{IsCutFor, leaving}
 use Rattle.exchange.specs.Keeping.{AreKeptBut}
+use Rattle.exchange.specs.Opened.{AreOpenedFor, Opened}
 use Rattle.exchange.specs.Promises.{AsksFor, Comes, HasGivenUp, IsAsItWas, IsDone, IsEmpty, IsUndone, KeepsJobs, KeepsPromises, LeavesAll, LeavesOthers, Run, World, clients_of, saved_by, world_of}
 use Rattle.exchange.specs.Responses.{Given, IsResponseTo, IsTextAnswer, Named, Response, source_in, text_in}
 use Rattle.exchange.specs.declared.limits.TheConstants.{MISUSED, UNWRITTEN}
-use Rattle.named_files.specs.Clients.{clients_by, ends_of}
-use Rattle.named_files.specs.Contents.{AreContents, Holding}
+use Rattle.named_files.specs.Clients.{AreAdmitted, clients_by, ends_of}
+use Rattle.named_files.specs.Contents.{AreContents, Holding, StandAmong}
 use Rattle.named_files.specs.DistinctFiles.{AreSeenApart, Leading}
 use Rattle.named_files.specs.Notes.{GivesUp, IsToldInPart}
 use Rattle.named_files.specs.Outputs.{no_write_failures, none_opened}
@@ -112,9 +113,9 @@ module _ (named : Named) (given : Given) (words : List Text) (prints : List ℕ 
   by_name rack job asks out text is holds = (λ input. absurd (record_named rack job words asks.0 asks.1 out is input), λ other. holds)
 
   module _ {C : Type 0} (received : C → Closed) (receipts : Receipts C) (comes : Text → Option (List ℕ)) (had : Text → List ℕ)
-      (endings : List (Ending (List ℕ))) (after : Ways) where
+      (endings : List (Ending (List ℕ))) (opened : Opened) (idle : ends_of endings ≡ [] → opened.admitted ≡ []) (after : Ways) where
     abbrev W0 : World
-    W0 = world_of The0 given.ports after (saved_by received receipts) (clients_of comes had endings)
+    W0 = world_of The0 given.ports after (saved_by received receipts) (clients_of comes had endings) opened
 
     -- where a job has no answer nothing is left of it
     undone : (job : Job) → AsksFor The0 job → LeavesOthers W0 job → (lost : WriteFailures) → AreKeptBut named.holds received job None receipts lost
@@ -123,12 +124,12 @@ module _ (named : Named) (given : Given) (words : List Text) (prints : List ℕ 
     undone (OverPorts C004) asks others lost kept ports ends = others
     undone (OverPorts (Drive batch port port_b from wiring first goes_on workers)) asks others lost kept ports ends = (ports, others.0, others.1, others.2)
     undone (Sessions rack (Serve scripts workers)) asks others lost kept ports ends =
-        scripts_unbegun received receipts lost named given The0 false after comes had endings (λ all. absurd (false≢true all)) rack scripts workers kept
+        scripts_unbegun received receipts lost named given The0 false after comes had endings opened idle (λ all. absurd (false≢true all)) rack scripts workers kept
     undone (Sessions rack (Host names workers)) asks others lost kept ports ends =
-        live_unbegun received receipts lost named given The0 false after comes had endings (λ all. absurd (false≢true all)) rack
+        live_unbegun received receipts lost named given The0 false after comes had endings opened idle (λ all. absurd (false≢true all)) rack
         (by_name rack (Host names workers) asks) names kept ends
     undone (Sessions rack Talk) asks others lost kept ports ends =
-        live_unbegun received receipts lost named given The0 false after comes had endings (λ all. absurd (false≢true all)) rack (by_name rack Talk asks) []
+        live_unbegun received receipts lost named given The0 false after comes had endings opened idle (λ all. absurd (false≢true all)) rack (by_name rack Talk asks) []
         kept ends
 
     apart_by : (job : Job) → AsksFor The0 job → LeavesOthers W0 job → (response : Response) → IsResponseTo named given job response → response.ports ≡ after
@@ -153,7 +154,7 @@ module _ (named : Named) (given : Given) (words : List Text) (prints : List ℕ 
         inl (subst (λ (r : Request). AreSeenApart named.leads (file_uses r.job)) (one_request words other (record { job = job; is_quiet = asks.0 }) has asks.1)
         cut.0)
     apart_in_part out_before out_after (Err NoMemory, has, wrong, none) unwritten job asks others =
-        inr (inr unwritten, all_undone W0 job (all_left received receipts comes had endings given.ports after The0 true none.0))
+        inr (inr unwritten, all_undone W0 job (all_left received receipts comes had endings opened idle given.ports after The0 true none.0))
     apart_in_part out_before out_after (Err (Clap error), has, wrong, none) unwritten job asks others =
         absurd (no_fault words (record { job = job; is_quiet = asks.0 }) error asks.1 wrong)
 
@@ -173,46 +174,61 @@ text_done w (RunJob shape batch scheduled image workers) texts printed done is =
 text_done w (Replay shape recorded image first) texts printed done is = replayed_so shape (text_in texts.list) texts.image first printed is.0 is.1 done is.2
 
 module _ {C : Type 0} (received : C → Closed) (receipts : Receipts C) (comes : Text → Option (List ℕ)) (had : Text → List ℕ) (endings : List (Ending (List ℕ)))
+    (opened : Opened) (idle : ends_of endings ≡ [] → opened.admitted ≡ [])
     (named : Named) (given : Given) (known : given.clients ≡ clients_by comes had)
     (words : List Text) (after : Ways) (prints : List ℕ → Type 0) (status : ℕ) (whole : Bool) (may : WriteFailures → Type 0)
-    (none_lost : (lost : WriteFailures) → may lost → whole ≡ true → lost ≡ no_write_failures) where
+    (none_lost : (lost : WriteFailures) → may lost → whole ≡ true → lost ≡ no_write_failures)
+    (its : (request : Request) → AskFor words request
+    → AreAdmitted (names_of request.job) (ends_of endings) opened.admitted × StandAmong opened.read (all_files (files_of request.job))) where
   abbrev The : Run
   The = the_run named given words prints status
 
   abbrev W : World
-  W = record { run = The; whole = whole; before = given.ports; after = after; kept = saved_by received receipts; clients = clients_of comes had endings }
+  W = record {
+    run = The;
+    whole = whole;
+    before = given.ports;
+    after = after;
+    kept = saved_by received receipts;
+    clients = clients_of comes had endings;
+    opened = opened;
+  }
+
+  read_once : (job : Job) → AsksFor The job → StandAmong opened.read (all_files (files_of job))
+  read_once job asks = (its (record { job = job; is_quiet = asks.0 }) asks.1).1
 
   had_so : SessionsCome named given received receipts (ends_of endings) may The → (rack : SharedRack) (job : SessionJob) → AsksFor The (Sessions rack job)
       → Had W rack job
   had_so come rack (Serve scripts workers) asks = elim (come rack (Serve scripts workers) asks) [
-    | inl c ↦ scripts_come received receipts c.0 named given The whole after comes had endings (none_lost c.0 c.1) rack scripts workers
+    | inl c ↦ scripts_come received receipts c.0 named given The whole after comes had endings opened idle (none_lost c.0 c.1) rack scripts workers
         (λ files rest reads. held_files words (record { job = Sessions rack (Serve scripts workers); is_quiet = asks.0 }) named.holds given.input files rest
         asks.1 reads) c.2
     | inr none ↦ inr (
       (
         inl none.prints,
-        none_begun received receipts no_write_failures named given The whole after comes had endings
+        none_begun received receipts no_write_failures named given The whole after comes had endings opened idle
             (λ all. refl) rack (Serve scripts workers) none,
       ),
       none.status,
     )
   ]
   had_so come rack (Host names workers) asks = elim (come rack (Host names workers) asks) [
-    | inl c ↦ clients_come received receipts c.0 named given The whole after comes had endings (none_lost c.0 c.1) rack
-        (by_name named given words prints status rack (Host names workers) asks) names workers (ap (λ clients. clients names) known)
+    | inl c ↦ clients_come received receipts c.0 named given The whole after comes had endings opened idle (none_lost c.0 c.1) rack
+        (by_name named given words prints status rack (Host names workers) asks) names workers
+        (its (record { job = Sessions rack (Host names workers); is_quiet = asks.0 }) asks.1).0 (ap (λ clients. clients names) known)
         (λ files rest reads. held_files words (record { job = Sessions rack (Host names workers); is_quiet = asks.0 }) named.holds given.input files rest asks.1
         reads) c.2
     | inr none ↦ inr (
       (
         inl none.prints,
-        none_begun received receipts no_write_failures named given The whole after comes had endings
+        none_begun received receipts no_write_failures named given The whole after comes had endings opened idle
             (λ all. refl) rack (Host names workers) none,
       ),
       none.status,
     )
   ]
   had_so come rack Talk asks = elim (come rack Talk asks) [
-    | inl c ↦ talk_comes received receipts c.0 named given The whole after comes had endings (none_lost c.0 c.1) rack
+    | inl c ↦ talk_comes received receipts c.0 named given The whole after comes had endings opened idle (none_lost c.0 c.1) rack
         (by_name named given words prints status rack Talk asks)
         (λ rest files reads came is. (
           λ same. known_came given.input came
@@ -223,7 +239,7 @@ module _ {C : Type 0} (received : C → Closed) (receipts : Receipts C) (comes :
     | inr none ↦ inr (
       (
         inl none.prints,
-        none_begun received receipts no_write_failures named given The whole after comes had endings
+        none_begun received receipts no_write_failures named given The whole after comes had endings opened idle
             (λ all. refl) rack Talk none,
       ),
       none.status,
@@ -290,6 +306,7 @@ module _ {C : Type 0} (received : C → Closed) (receipts : Receipts C) (comes :
     ];
     used = used;
     others = others (Texts job) asks;
+    read = read_once (Texts job) asks;
   }
   keeps_jobs all come sessions used others (OverPorts C004) asks = record {
     done = λ done. elim (replies named given after words prints status asks come) [
@@ -302,6 +319,7 @@ module _ {C : Type 0} (received : C → Closed) (receipts : Receipts C) (comes :
     ];
     used = used;
     others = others (OverPorts C004) asks;
+    read = read_once (OverPorts C004) asks;
   }
   keeps_jobs all come sessions used others (OverPorts (Drive batch port port_b from wiring first goes_on workers)) asks =
       let job = OverPorts (Drive batch port port_b from wiring first goes_on workers) in
@@ -317,6 +335,7 @@ module _ {C : Type 0} (received : C → Closed) (receipts : Receipts C) (comes :
         ];
         used = used;
         others = left;
+        read = read_once job asks;
       }
   keeps_jobs all come sessions used others (Sessions rack job) asks = record {
     done = λ done. elim (had_so sessions rack job asks) [
@@ -329,6 +348,7 @@ module _ {C : Type 0} (received : C → Closed) (receipts : Receipts C) (comes :
     ];
     used = used;
     others = others (Sessions rack job) asks;
+    read = read_once (Sessions rack job) asks;
   }
 
 -- ---- all promises
@@ -338,45 +358,49 @@ either_used status (inl done) misused = omega (arith, done, misused)
 either_used status (inr refused) misused = omega (arith, refused, misused)
 
 pub keeps_promises : {C : Type 0} (e : JobEnd) (after : Ways) (received : C → Closed) (receipts : Receipts C) (comes : Text → Option (List ℕ))
-    (had : Text → List ℕ) (endings : List (Ending (List ℕ))) → e.given.clients ≡ clients_by comes had
+    (had : Text → List ℕ) (endings : List (Ending (List ℕ))) (opened : Opened) → AreOpenedFor e.words (ends_of endings) opened
+    → e.given.clients ≡ clients_by comes had
     → ((job : Job) (response : Response) → e.keeps job response → response.ports ≡ after)
     → ((job : Job) (response : Response) → e.keeps job response → KeepsSo e.named.holds received receipts (ends_of endings) no_write_failures job response)
     → (e.none → (receipts ≡ none_opened) × (after ≡ e.given.ports) × (ends_of endings ≡ [])) → EndsSo e
-    → KeepsPromises e.named.leads (world_of (ended_run e) e.given.ports after (saved_by received receipts) (clients_of comes had endings))
+    → KeepsPromises e.named.leads (world_of (ended_run e) e.given.ports after (saved_by received receipts) (clients_of comes had endings) opened)
     (IsToldInPart e.streams.out_before e.streams.out_after)
-keeps_promises e after received receipts comes had endings known ports so none is =
+keeps_promises e after received receipts comes had endings opened its known ports so none is =
+    let idle = idle_so e.words (ends_of endings) opened its in
     let come = sessions_come e received receipts (ends_of endings) so (λ n. ((none n).0, (none n).2)) is in
     record {
       one = one_request e.words;
       ends = ends_well e is;
-      jobs = λ job asks. keeps_jobs received receipts comes had endings e.named e.given known e.words after (Appends e.streams.out_before e.streams.out_after)
-          e.code true (λ lost. lost ≡ no_write_failures) (λ lost same all. same)
+      jobs = λ job asks. keeps_jobs received receipts comes had endings opened idle e.named e.given known e.words after (Appends e.streams.out_before e.streams.out_after)
+          e.code true (λ lost. lost ≡ no_write_failures) (λ lost same all. same) (opened_so e.words (ends_of endings) opened its)
           (text_ends e is) (jobs_come e after ports (λ n. (none n).1) is) come (λ misused. asks_nothing e is (record { job = job; is_quiet = asks.0 }) asks.1
-          misused) (keeps_others received receipts comes had endings after e ports so none is) job asks;
+          misused) (keeps_others received receipts comes had endings opened idle after e ports so none is) job asks;
       apart = λ job asks.
-          let others = keeps_others received receipts comes had endings after e ports so none is job asks in
+          let others = keeps_others received receipts comes had endings opened idle after e ports so none is job asks in
           elim (end_of e (record { job = job; is_quiet = asks.0 }) asks.1 is) [
             | inl done ↦ apart_by e.named e.given e.words (Appends e.streams.out_before e.streams.out_after) e.code received receipts comes
-                had endings after job asks others done.0 done.1 (ports job done.0 done.2) no_write_failures (so job done.0 done.2)
+                had endings opened idle after job asks others done.0 done.1 (ports job done.0 done.2) no_write_failures (so job done.0 done.2)
                 (λ gives told. inl (gave_up (ended_run e) done.0.end gives
                 (subst (λ (x : List ℕ). Appends e.streams.out_before e.streams.out_after (x ++ done.0.end.text)) told done.3.text)))
             | inr gives_up ↦ inr (
               inl (inl gives_up.1.text),
-              all_undone (W0 e.named e.given e.words (Appends e.streams.out_before e.streams.out_after) e.code received receipts comes had endings after) job
-                  (all_left received receipts comes had endings e.given.ports after (ended_run e) true (none gives_up.0)),
+              all_undone (W0 e.named e.given e.words (Appends e.streams.out_before e.streams.out_after) e.code received receipts comes had endings opened idle
+                  after) job
+                  (all_left received receipts comes had endings opened idle e.given.ports after (ended_run e) true (none gives_up.0)),
             )
           ];
-      nothing = keeps_nothing received receipts comes had endings after e ports so none is;
+      nothing = keeps_nothing received receipts comes had endings opened idle after e ports so none is (unread_so e.words (ends_of endings) opened its);
       fronts = λ unwritten. absurd (all_written e is unwritten);
     }
 
 pub keeps_in_part : {C : Type 0} (words : List Text) (named : Named) (after : Ways) (given : Given) (out_before out_after : Option (List ℕ)) (code : ℕ)
     (received : C → Closed) (receipts : Receipts C) (comes : Text → Option (List ℕ)) (had : Text → List ℕ) (endings : List (Ending (List ℕ)))
-    → given.clients ≡ clients_by comes had → code ≡ UNWRITTEN → IsCutFor named (leaving named.holds received receipts given.ports after (ends_of endings)) words
-    given out_before out_after
+    (opened : Opened) → AreOpenedFor words (ends_of endings) opened → given.clients ≡ clients_by comes had → code ≡ UNWRITTEN
+    → IsCutFor named (leaving named.holds received receipts given.ports after (ends_of endings)) words given out_before out_after
     → KeepsPromises named.leads (world_of (the_run named given words (Appends out_before out_after) code) given.ports after (saved_by received receipts)
-    (clients_of comes had endings)) (IsToldInPart out_before out_after)
-keeps_in_part words named after given out_before out_after code received receipts comes had endings known unwritten is =
+    (clients_of comes had endings) opened) (IsToldInPart out_before out_after)
+keeps_in_part words named after given out_before out_after code received receipts comes had endings opened its known unwritten is =
+    let idle = idle_so words (ends_of endings) opened its in
     let run = the_run named given words (Appends out_before out_after) code in
     let left = leaving named.holds received receipts given.ports after (ends_of endings) in
     let cut = cut_ends received receipts (ends_of endings) words named left given out_before out_after (λ job response k. (k.0.0, (k.0.1, k.2)))
@@ -388,17 +412,20 @@ keeps_in_part words named after given out_before out_after code received receipt
         done = λ done. absurd (omega (arith, done, unwritten));
         refused = λ refused. absurd (omega (arith, refused, unwritten));
         used = λ misused. omega (arith, misused, unwritten);
-        others = cut_others received receipts comes had endings after words named given out_before out_after run true is job asks.0 asks.1;
+        others = cut_others received receipts comes had endings opened idle after words named given out_before out_after run true is job asks.0 asks.1;
+        read = (opened_so words (ends_of endings) opened its (record { job = job; is_quiet = asks.0 }) asks.1).1;
       };
-      apart = λ job asks. apart_in_part named given words (Appends out_before out_after) code received receipts comes had endings after out_before out_after is
-          unwritten job asks (cut_others received receipts comes had endings after words named given out_before out_after run true is job asks.0 asks.1);
-      nothing = cut_nothing received receipts comes had endings after words named given out_before out_after run true is refl unwritten;
+      apart = λ job asks. apart_in_part named given words (Appends out_before out_after) code received receipts comes had endings opened idle after out_before
+          out_after is unwritten job asks
+          (cut_others received receipts comes had endings opened idle after words named given out_before out_after run true is job asks.0 asks.1);
+      nothing = cut_nothing received receipts comes had endings opened idle after words named given out_before out_after run true is refl unwritten
+          (unread_so words (ends_of endings) opened its);
       fronts = λ same. (
         cut.status,
         cut.either,
-        keeps_jobs received receipts comes had endings named given known words after (IsToldInPart out_before out_after) cut.status false (λ lost. ⊤)
-            (λ lost may all. absurd (cc)) cut.texts cut.jobs cut.sessions (either_used cut.status cut.either)
-            (λ job asks. cut_others received receipts comes had endings after words named given out_before out_after
+        keeps_jobs received receipts comes had endings opened idle named given known words after (IsToldInPart out_before out_after) cut.status false (λ lost. ⊤)
+            (λ lost may all. absurd (cc)) (opened_so words (ends_of endings) opened its) cut.texts cut.jobs cut.sessions (either_used cut.status cut.either)
+            (λ job asks. cut_others received receipts comes had endings opened idle after words named given out_before out_after
             (the_run named given words (IsToldInPart out_before out_after) cut.status) false is job asks.0 asks.1),
       );
     }

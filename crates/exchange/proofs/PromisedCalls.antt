@@ -2,11 +2,11 @@
 -- how the program ends.
 use Rattle.std.proofs.Common.{◌≡◌, ◌≢◌, ◌≤◌, ◌∙◌, ◌++◌, ◌+◌, ◌||◌, ℕ, Bool, true, false, List, [], ◌∷◌, length, map, fold, Option, Some, None, inl, inr, ◌⊎◌, refl, sym, ap, ap₂, subst, append-nil}
 use Rattle.std.specs.Prelude.{IfSome, codes, is_some, option_map, option_to_list}
-use Rattle.std.specs.List.{AllByRecursion, flat_map, list_any}
+use Rattle.std.specs.List.{AllByRecursion, flat_map, list_any, range_with_len}
 use Rattle.std.proofs.lemmas.List.Elements.{recursion_from_All}
 use Rattle.batch_book.proofs.OneReplay.{shape_stays}
 use Rattle.batch_book.specs.History.{BookView, new_book_view}
-use Rattle.batch_book.specs.Machine.{Machine, opened}
+use Rattle.batch_book.specs.Machine.{Machine, opened as begun}
 use Rattle.batch_book.specs.Seats.{own}
 use Rattle.batch_book.specs.Values.{greatest}
 use Rattle.batch_book.specs.declared.entry.Entry.{Entry}
@@ -28,14 +28,15 @@ use Rattle.exchange.proofs.EndStatuses.{gave_up, given_up}
 use Rattle.exchange.proofs.PromisedSessions.{AreCallsOf, HasOwn, all_own, all_sessions, all_stand, are_calls, calls_of, in_order, one_session, seen_within, session_so}
 use Rattle.exchange.specs.Keeping.{AreKeptBut}
 use Rattle.exchange.specs.Promises.{HoldTexts, AreKept, AreToldKept, Calls, all_calls, Comes, GoesOnFrom, HasGivenUp, IsDone, Hosted, IsAsItWas, IsEmpty, IsHosted, IsKept, IsNoStart, IsRefusalLine}
-use Rattle.exchange.specs.Promises.{IsSessionOf, IsUndone, Run, Session, World, all_turns, clients_of, hosted_text, saved_by, name_at}
+use Rattle.exchange.specs.Opened.{Opened}
+use Rattle.exchange.specs.Promises.{IsSessionOf, IsUndone, NoneServed, Run, Session, World, all_turns, clients_of, hosted_text, saved_by, name_at}
 use Rattle.exchange.specs.Responses.{Given, IsResponseTo, Named, Response}
 use Rattle.recorded_sessions.specs.Answers.{IsLiveAnswer, IsWrongStart, hosting, loses, talking}
 use Rattle.recorded_sessions.specs.Keeping.{AreLiveKept, AreScriptsKept, AreWritten, HasAllTold}
 use Rattle.recorded_sessions.specs.Records.{BeginsFor, BeginsWith, IsAsBegun, IsWrongFor}
 use Rattle.module_memory.specs.Images.{image_of}
 use Rattle.module_memory.specs.Store.{Store}
-use Rattle.named_files.specs.Clients.{clients_by, ends_of}
+use Rattle.named_files.specs.Clients.{AreAdmitted, clients_by, ends_of}
 use Rattle.named_files.specs.Contents.{AreContents, Holding}
 use Rattle.named_files.specs.Notes.{GivesUp}
 use Rattle.named_files.specs.Outputs.{HasNothingGone, IsFileWritten, IsUnput as IsPutNowhere, no_write_failures}
@@ -157,6 +158,14 @@ pub none_ended : (es : List (Ending (List ℕ))) → ends_of es ≡ [] → es �
 none_ended [] none = refl
 none_ended (e ∷ es) none = absurd (cc)
 
+-- where they ended, all clients of these names were admitted
+all_admitted : (names : List Text) (es : List SessionEnd) (admitted : List Text) (vs : List HostedSession) → map (λ (v : HostedSession). v.end) vs ≡ es
+    → map (λ (v : HostedSession). v.part.session) vs ≡ range_with_len 0 (length names) → AreAdmitted names es admitted → admitted ≡ names
+all_admitted names (e ∷ es) admitted vs ended numbers is = is
+all_admitted [] [] admitted vs ended numbers is = is
+all_admitted (name ∷ names) [] admitted [] ended numbers is = absurd (cc)
+all_admitted (name ∷ names) [] admitted (v ∷ vs) ended numbers is = absurd (cc)
+
 first_end : (a b : SessionEnd) (more others : List SessionEnd) → a ∷ more ≡ b ∷ others → a ≡ b
 first_end a b more others same = cc
 
@@ -272,9 +281,21 @@ as_came calls came s is = record {
 
 module _ {C : Type 0} (received : C → Closed) (receipts : Receipts C) (lost : WriteFailures) (named : Named) (given : Given) (run : Run) (whole : Bool)
     (after : Ways) (comes : Text → Option (List ℕ)) (had : Text → List ℕ) (endings : List (Ending (List ℕ)))
+    (opened : Opened) (idle : ends_of endings ≡ [] → opened.admitted ≡ [])
     (none_lost : whole ≡ true → lost ≡ no_write_failures) (rack : SharedRack) where
   abbrev The : World
-  The = record { run = run; whole = whole; before = given.ports; after = after; kept = saved_by received receipts; clients = clients_of comes had endings }
+  The = record {
+    run = run;
+    whole = whole;
+    before = given.ports;
+    after = after;
+    kept = saved_by received receipts;
+    clients = clients_of comes had endings;
+    opened = opened;
+  }
+
+  none_served : ends_of endings ≡ [] → NoneServed The
+  none_served none = (none_ended endings none, idle none)
 
   record_is : (names : List Text) (calls : Calls) (book : BookView) → AreCallsOf calls book → whole_record names book.opening book.history
       ≡ whole_record names calls.opening (all_calls calls)
@@ -308,12 +329,12 @@ module _ {C : Type 0} (received : C → Closed) (receipts : Receipts C) (lost : 
   none_begun (Host names workers) none = (
     subst (λ (r : Option C). IsAsItWas run rack.record_out names (option_map received r)) (sym none.recorded) tt,
     subst (λ (r : Option C). IsEmpty rack.image_out (option_map received r)) (sym none.image) tt,
-    none_ended endings none.none_ended,
+    none_served none.none_ended,
   )
   none_begun Talk none = (
     subst (λ (r : Option C). IsAsItWas run rack.record_out [] (option_map received r)) (sym none.recorded) tt,
     subst (λ (r : Option C). IsEmpty rack.image_out (option_map received r)) (sym none.image) tt,
-    none_ended endings none.none_ended,
+    none_served none.none_ended,
   )
 
   -- there was no answer
@@ -403,11 +424,11 @@ module _ {C : Type 0} (received : C → Closed) (receipts : Receipts C) (lost : 
           for (Some out) by is = (is.0, is.1, by out is.1 refl is.2, is.3)
 
       pub live_unbegun : AreLiveKept named.holds received rack names None receipts lost → ends_of endings ≡ [] → IsAsItWas run rack.record_out names
-          (option_map received receipts.recorded) × IsEmpty rack.image_out (option_map received receipts.image) × (endings ≡ [])
+          (option_map received receipts.recorded) × IsEmpty rack.image_out (option_map received receipts.image) × NoneServed The
       live_unbegun gone ends = (
         as_it_was named.holds received rack.record_out names receipts.recorded run by_name gone.0,
         is_empty received rack.image_out receipts.image gone.1,
-        none_ended endings ends,
+        none_served ends,
       )
 
       begins_for : (record_out : Option RecordFile) (opening : Store) (es : List Entry)
@@ -426,7 +447,7 @@ module _ {C : Type 0} (received : C → Closed) (receipts : Receipts C) (lost : 
         rack_of bytes of = subst (λ (o : Store). IsRackOf rack.shape bytes o) (sym begins.1.0) of
 
         same_shape : was.machine.store.shape ≡ was.opening.shape
-        same_shape = shape_stays (opened was.opening) was.history was.machine begins.1.1
+        same_shape = shape_stays (begun was.opening) was.history was.machine begins.1.1
 
         goes_on : GoesOnFrom run rack.record_out names Theirs
         goes_on = (
@@ -439,7 +460,7 @@ module _ {C : Type 0} (received : C → Closed) (receipts : Receipts C) (lost : 
   -- ---- `host`
 
   module _ (by_name : (out : RecordFile) (text : List ℕ) → rack.record_out ≡ Some out → named.holds out.name text → run.holds out.name text) (names : List Text)
-      (workers : ℕ) where
+      (workers : ℕ) (admits : AreAdmitted names (ends_of endings) opened.admitted) where
     hosted_so : (texts : Files (List ℕ)) (ends : List SessionEnd) (printed : Printed) (left : Option BookView) → ends ≡ ends_of endings → run.status
         ≡ printed.status → AreLiveKept named.holds received rack names left receipts lost
         → IsLiveAnswer named.holds rack names texts.image (hosting rack (clients_by comes had names) ends printed) printed left
@@ -469,6 +490,7 @@ module _ {C : Type 0} (received : C → Closed) (receipts : Receipts C) (lost : 
           each = all.1.each;
           order = in_order (loses rack) was.opening was.history parts book one (map (λ (h : Hosted). h.its) all.0) (all.1.entries 0)
               (all.1.seen (greatest book.history) (recursion_from_All (λ (p : Part). p.seen ≤ greatest book.history) parts one.seen));
+          once = all_admitted names (ends_of endings) opened.admitted sessions (ended ∙ same) of.numbers admits;
           status = status ∙ closing.status ∙ ap (λ (es : List SessionEnd). status_at (list_any has_failed es)) same ∙ ap status_at (same_failures endings);
           prints = closing.prints ∙ all.1.text;
           kept = are_told names book calls (are_calls (loses rack) was.opening was.history parts book one) kept;

@@ -1,4 +1,5 @@
 -- What is printed after what a session was told, and what is told beside it.
+use Rattle.std.proofs.Common.{ap₂}
 use Rattle.std.proofs.Common.{ℕ, Bool, false, ◌++◌, ◌∷◌, List, Option, Some, None, Result, Ok, Err, IfOk, IfErr, OnErr, ap, ◌∙◌, append_assoc, append-nil, ◌⊎◌, inl, inr, refl, subst, sym, ◌≡◌, []}
 use Rattle.std.specs.Prelude.{IsSomeAnd, MatchOption}
 use Rattle.std.specs.Io.KnownBytes.{Appends}
@@ -18,14 +19,18 @@ use Rattle.exchange.specs.declared.answered.NotedAnswer.{NotedAnswer}
 use Rattle.named_files.specs.DistinctFiles.{AreSeenApart}
 use Rattle.drive_answers.specs.Ways.{Ways}
 use Rattle.session_answers.specs.HostAnswers.{SessionEnd}
+use Rattle.session_answers.specs.Passes.{GivenPasses, no_passes}
+use Rattle.exchange.specs.Opened.{AreOpenedFor, none_opened_by_name, files_opened}
 use Rattle.session_answers.specs.declared.ended_session.Ending.{Ending}
-use Rattle.named_files.specs.Clients.{ends_of}
+use Rattle.named_files.specs.Clients.{AreAdmitted, ends_of}
+use Rattle.named_files.specs.Contents.{HasReadOnce, StandAmong}
 use Rattle.exchange.specs.Responses.{Given, IsJobAnswer, IsJobCut, IsTalk, Named, Response}
 use Rattle.named_files.specs.Notes.{note_of, refusal_of, unanswered, AreToldLines, GivesUp, HasToldLines, IsNoAnswer, IsNoteOn, IsToldInPart, IsToldUnless}
 use Rattle.exchange.specs.Notes.{IsJobWarnedOf, IsBeside, IsNoted, MayTell, TellsLines, told_there}
 use Rattle.exchange.specs.Outcomes.{IsAnswered, IsJobFailure}
 use Rattle.command_words.specs.declared.jobs.ArgumentsFault.TheVariants as arguments_fault
-use Rattle.command_words.specs.Jobs.{AskFor, file_uses}
+use Rattle.clap.specs.Words.{Text}
+use Rattle.command_words.specs.Jobs.{AskFor, all_files, clients_of, file_uses, files_of}
 use Rattle.exchange.specs.declared.limits.TheConstants.{UNWRITTEN}
 use Rattle.exchange.specs.Ends.{Leaving, Streams, IsDone, IsEndForArguments, IsCutFor, IsFaultEnd, IsPrinted, IsUnwrittenOf, streams_of}
 use Rattle.named_files.proofs.Told.{bytes_of_line, file_told}
@@ -192,7 +197,12 @@ cut_short : (m : JobFailure) (behind cut : List ℕ → Type 0) (told : List ℕ
     → (behind told × (end : Printed) × GivesUp end × IsToldInPart before after end.text) ⊎ (cut told × (after ≡ before))
 cut_short (missed.File _) behind cut told before after so part = inl (so, unanswered refusal.File, inl refl, part)
 cut_short (missed.Output _) behind cut told before after so part =
-    inl (so, unanswered refusal.File, inl refl, ([], (unanswered refusal.File).text, refl, subst (λ (x : Option (List ℕ)). Appends before x []) (sym part) (Appends-nil before)))
+    inl (
+      so,
+      unanswered refusal.File,
+      inl refl,
+      ([], (unanswered refusal.File).text, refl, subst (λ (x : Option (List ℕ)). Appends before x []) (sym part) (Appends-nil before)),
+    )
 cut_short missed.NoMemory behind cut told before after so part = inl (so, unanswered refusal.NoMemory, inr refl, part)
 cut_short (missed.OutputFailure what) behind cut told before after so part = inr (so, part)
 
@@ -200,7 +210,8 @@ pub refused_in_part : {E : Type 0} (r : Result ℕ E) (named : Named) (leaves : 
     (told : List ℕ) (m : JobFailure) (behind : List ℕ → Type 0) (before mid after : Option (List ℕ))
     → AskFor arguments request → Appends before mid told
     → IsJobFailure behind (IsJobCut named given request.job leaves.ports leaves.ends) told m
-    → (behind told → (told ≡ []) × ((end : Printed) → leaves.keeps request.job (record { told = told; end = end; left = None; ports = given.ports; ends = [] })))
+    → (behind told → (told ≡ [])
+    × ((end : Printed) → leaves.keeps request.job (record { told = told; end = end; left = None; ports = given.ports; ends = [] })))
     → leaves.cut request.job → OnErr r (MatchOption (refusal_of m) (after ≡ mid) (λ why. IsToldInPart mid after (unanswered why).text))
     → OnErr r (IsCutFor named leaves arguments given before after)
 refused_in_part (Ok status) named leaves arguments given request told m behind before mid after ask first so keeps unkept cut = tt
@@ -235,3 +246,22 @@ pub told_more : (quiet : Bool) (note : Option (List ℕ)) (a b c : Option (List 
     → (more : List ℕ) × Appends a c more
 told_more quiet said a b c told first (inl none) = (told ++ [], Appends-trans a b c told [] first none)
 told_more quiet said a b c told first (inr t) = (told ++ t.3.0, Appends-trans a b c told t.3.0 first t.3.3)
+
+-- ---- which files were opened by name
+
+pub opened_for : (words : List Text) (request : Request) (ends : List SessionEnd) (passes : GivenPasses) (before after : List Text) → AskFor words request
+    → AreAdmitted (clients_of request.job) ends passes.admitted → HasReadOnce (all_files (files_of request.job)) before after → before ≡ []
+    → AreOpenedFor words ends (files_opened passes after)
+opened_for words request ends passes before after asks admitted is none = inl (
+  request,
+  asks,
+  admitted,
+  subst (λ (read : List Text). StandAmong read (all_files (files_of request.job))) (sym (is.1 ∙ ap (λ (names : List Text). names ++ is.0) none)) is.2,
+)
+
+pub none_opened_so : (passes : GivenPasses) (read : List Text) → passes ≡ no_passes → read ≡ [] → files_opened passes read ≡ none_opened_by_name
+none_opened_so passes read new unread = ap₂ files_opened new unread
+
+pub none_opened_for : (words : List Text) (endings : List (Ending (List ℕ))) (passes : GivenPasses) (read : List Text) → endings ≡ [] → passes ≡ no_passes
+    → read ≡ [] → AreOpenedFor words (ends_of endings) (files_opened passes read)
+none_opened_for words endings passes read none new unread = inr (none_served endings none, none_opened_so passes read new unread)

@@ -7,3 +7,4 @@ pub mod Responses
 pub mod Warnings
 pub mod Promises
 pub mod Rights
+pub mod Opened

@@ -17,8 +17,8 @@ use Rattle.c004_commands.specs.Commands.{AreCommands}
 use Rattle.c004_commands.specs.declared.command.Command.{Command}
 use Rattle.clap.specs.Words.{IsAmong, Text}
 use Rattle.clap.specs.declared.error.kind.ErrorKind.TheVariants.{DisplayHelp, DisplayVersion}
-use Rattle.command_words.specs.Jobs.{AskFor, Files, live_names, faults_of, file_uses, files_of}
-use Rattle.command_words.specs.Jobs.{input_name, recorded_in}
+use Rattle.command_words.specs.Jobs.{AskFor, Files, all_files, live_names, faults_of, file_uses}
+use Rattle.command_words.specs.Jobs.{files_of, input_name, recorded_in}
 use Rattle.command_words.specs.declared.jobs.Job.{Job}
 use Rattle.command_words.specs.declared.jobs.Job.TheVariants.{Texts, Ports as OverPorts, Sessions}
 use Rattle.command_words.specs.declared.jobs.TextJob.{TextJob}
@@ -50,7 +50,7 @@ use Rattle.move_directions.specs.Directions.{NoneIsShorter}
 use Rattle.move_directions.specs.Moves.{Directs}
 use Rattle.move_directions.specs.Text.{Denotes as DenotesMoves}
 use Rattle.named_files.specs.DistinctFiles.{AreSeenApart, Leading}
-use Rattle.named_files.specs.Contents.{Holding}
+use Rattle.named_files.specs.Contents.{Holding, StandAmong}
 use Rattle.link_graph.specs.declared.link.End.{End}
 use Rattle.plan_answers.specs.Drawings.{AreShown, AreWanted}
 use Rattle.plan_answers.specs.Pricing.{SaysPrices}
@@ -74,6 +74,7 @@ use Rattle.switch_settings.specs.Settings.{numbers_in, setting_pairs}
 use Rattle.batch.specs.Faults.{IsFirstFault}
 use Rattle.batch.specs.declared.fault.BatchFault.{BatchFault}
 use Rattle.exchange.specs.Drives.{names_in}
+use Rattle.exchange.specs.Opened.{Opened}
 use Rattle.exchange.specs.Responses.{source_in, text_in}
 use Rattle.move_directions.specs.Faults.{IsFirstFault as IsFirstMovesFault}
 use Rattle.plan_answers.specs.Answers.{IsFirstWrong}
@@ -188,7 +189,7 @@ abbrev pub clients_of : (Text → Option (List ℕ)) → (Text → List ℕ) →
 clients_of comes had ends = record { comes = comes; had = had; ends = ends }
 
 -- a run, and whether all could be written; the ways to ports before it and after it; the files of a
--- record and of an image; and live clients
+-- record and of an image; live clients; and which files were opened to be read, or as a client's
 pub record World : Type 1 where
   pub run : Run
   pub whole : Bool
@@ -196,9 +197,10 @@ pub record World : Type 1 where
   pub after : Ways
   pub kept : SavedFiles
   pub clients : Clients
+  pub opened : Opened
 
-abbrev pub world_of : Run → (before after : Ways) → SavedFiles → Clients → World
-world_of run before after kept clients =
+abbrev pub world_of : Run → (before after : Ways) → SavedFiles → Clients → Opened → World
+world_of run before after kept clients opened =
     record {
       run = run;
       whole = true;
@@ -206,6 +208,7 @@ world_of run before after kept clients =
       after = after;
       kept = kept;
       clients = clients;
+      opened = opened;
     }
 
 -- the arguments ask for this job
@@ -753,8 +756,9 @@ hosted_text names h =
     (codes "session " ++ decimal h.its.number ++ codes " " ++ name_at names h.its.number
     ++ codes "\n") ++ ending_line h.end
 
--- Each client had its session. Their calls have one order, after those with which they began.
--- Printed was how each ended. The status is 0 where each did by itself.
+-- Each client had its session, and just their files were opened, those of each once. Their calls
+-- have one order, after those with which they began. Printed was how each ended. The status is 0
+-- where each did by itself.
 pub record HasHosted (w : World) (rack : SharedRack) (names : List Text) (texts : Files (List ℕ))
     (printed : List ℕ) : Type 0 where
   pub calls : Calls
@@ -766,6 +770,7 @@ pub record HasHosted (w : World) (rack : SharedRack) (names : List Text) (texts 
   pub each : AllByRecursion
       (λ h. IsHosted calls w.clients (name_at names h.its.number) h.its h.end) sessions
   pub order : HaveOneOrder calls (map (λ h. h.its) sessions)
+  pub once : w.opened.admitted ≡ names
   pub status : w.run.status ≡ status_at (list_any has_failed w.clients.ends)
   pub prints : printed ≡ flat_map (hosted_text names) sessions
   pub kept : AreToldKept w rack names calls
@@ -871,19 +876,22 @@ IsFirstWrongIn (Replay shape recorded image first) texts refusal =
 
 -- ---- nothing but what is asked for
 
+-- no live client had a session, and no client's files were opened
+abbrev pub NoneServed : World → Type 0
+NoneServed w = (w.clients.ends ≡ []) × (w.opened.admitted ≡ [])
+
 -- no port was opened, no file for a record or for an image, and no live client had a session
 abbrev pub LeavesAll : World → Type 0
 LeavesAll w =
-    (w.after ≡ w.before) × (w.kept.recorded ≡ None) × (w.kept.image ≡ None)
-    × (w.clients.ends ≡ [])
+    (w.after ≡ w.before) × (w.kept.recorded ≡ None) × (w.kept.image ≡ None) × NoneServed w
 
 -- what a job doesn't ask for stays as it was: only `drive` opens ports, only sessions leave files,
 -- and only `host` has live clients
 abbrev pub LeavesOthers : World → Job → Type 0
 LeavesOthers w (OverPorts (Drive batch port port_b scheduled wiring first goes_on workers)) =
-    (w.kept.recorded ≡ None) × (w.kept.image ≡ None) × (w.clients.ends ≡ [])
+    (w.kept.recorded ≡ None) × (w.kept.image ≡ None) × NoneServed w
 LeavesOthers w (Sessions rack (Host names workers)) = w.after ≡ w.before
-LeavesOthers w (Sessions rack job) = (w.after ≡ w.before) × (w.clients.ends ≡ [])
+LeavesOthers w (Sessions rack job) = (w.after ≡ w.before) × NoneServed w
 LeavesOthers w job = LeavesAll w
 
 -- the grammar finds that the arguments ask for help, or for the version
@@ -903,11 +911,12 @@ IsMisused run =
 abbrev pub KeepsNothing : World → Type 0
 KeepsNothing w =
     ((request : Request) → AskFor w.run.words request → ⊥)
-    → LeavesAll w × (IsMisused w.run ⊎ ((w.run.status ≡ DONE) × AskForHelp w.run.words))
+    → (LeavesAll w × (w.opened.read ≡ []))
+    × (IsMisused w.run ⊎ ((w.run.status ≡ DONE) × AskForHelp w.run.words))
 
 -- so it is, without help, where the arguments can't be had as texts
 abbrev pub KeepsUnread : World → Type 0
-KeepsUnread w = LeavesAll w × IsMisused w.run
+KeepsUnread w = (LeavesAll w × (w.opened.read ≡ [])) × IsMisused w.run
 
 -- ---- each command
 
@@ -950,7 +959,7 @@ IsUndone w (Sessions rack (Serve scripts workers)) =
     IsEmpty (recorded_in rack) w.kept.recorded × IsEmpty rack.image_out w.kept.image
 IsUndone w (Sessions rack job) =
     IsAsItWas w.run rack.record_out (live_names job) w.kept.recorded
-    × IsEmpty rack.image_out w.kept.image × (w.clients.ends ≡ [])
+    × IsEmpty rack.image_out w.kept.image × NoneServed w
 IsUndone w job = LeavesAll w
 
 -- the same with status 1: what was first wrong, or what had come of it where it ended early
@@ -968,13 +977,14 @@ IsRefused w (Sessions rack job) texts printed =
     IsDone w (Sessions rack job) texts printed
     ⊎ (IsRefusalLine (IsNoStart w rack job texts.image) printed × IsUndone w (Sessions rack job))
 
--- what comes of a job that is asked for
+-- what comes of a job that is asked for; its files are read once at most, and no other is
 pub record KeepsJob (w : World) (job : Job) : Type 0 where
   pub done : w.run.status ≡ DONE → Comes w.run job (IsDone w job)
   pub refused : w.run.status ≡ REFUSED
       → Comes w.run job (IsRefused w job) ⊎ (HasGivenUp w.run × IsUndone w job)
   pub used : w.run.status ≢ MISUSED
   pub others : LeavesOthers w job
+  pub read : StandAmong w.opened.read (all_files (files_of job))
 
 abbrev pub KeepsJobs : World → Type 0
 KeepsJobs w = (job : Job) → AsksFor w.run job → KeepsJob w job

@@ -5,11 +5,12 @@ ghost use Rattle.std.specs.Prelude.{length};
 ghost use Rattle.std.specs.Io.KnownBytes.{Appends};
 ghost use Rattle.batch_book.specs.History.{BookView};
 ghost use Rattle.plan_answers.specs.Lent.{bytes_of};
-ghost use Rattle.command_words.specs.Jobs.{IsWithinLimits, files_of};
+ghost use Rattle.command_words.specs.Jobs.{IsWithinLimits, all_files, clients_of, files_of};
 ghost use Rattle.command_words.specs.declared.jobs.Job.TheVariants.{Ports as OverPorts};
 ghost use Rattle.command_words.specs.declared.jobs.Job.TheVariants.{Texts as OfTexts};
-ghost use Rattle.named_files.specs.Contents.{AreContents, contents_in};
-ghost use Rattle.named_files.specs.Clients.{clients_by, ends_of};
+ghost use Rattle.named_files.specs.Contents.{AreContents, HasReadOnce, contents_in};
+ghost use Rattle.named_files.specs.Clients.{AreAdmitted, clients_by, ends_of};
+ghost use Rattle.session_answers.specs.Passes.{no_passes};
 ghost use Rattle.exchange.specs.Ends.{HasEnded, behind, streams_of};
 ghost use Rattle.exchange.specs.Responses.{IsAnswerTo, IsC004By, IsC004Cut, IsPortAnswer};
 ghost use Rattle.exchange.specs.Responses.{IsPortCut, IsTextAnswer, IsToldCut, given_by, named_by};
@@ -64,7 +65,7 @@ pub(crate) struct JobEnd<C> {
 pub(crate) fn run_job<R: ProgramRuntime, S: System, P: Ports, I: Read, O: Write, E: Write>(
     rt: &R,
     system: &S,
-    peers: &mut Devices<P>,
+    peers: &mut Devices<P, S::Desk, S::Reads>,
     request: &Request,
     input: &mut I,
     out: &mut O,
@@ -72,17 +73,22 @@ pub(crate) fn run_job<R: ProgramRuntime, S: System, P: Ports, I: Read, O: Write,
 ) -> JobEnd<S::Receipt>
     requires limits { IsWithinLimits request.now.job }
     requires unserved { peers.old.endings.items ≡ [] }
-    ensures { HasEnded (named_by (S.holds system.now) (S.leads system.now)) S.received
+    requires no_passes { S.passes peers.old.desk ≡ no_passes }
+    ensures ended { HasEnded (named_by (S.holds system.now) (S.leads system.now)) S.received
         (given_by (I.remaining input.old) (P.ways peers.old.ports)
         (clients_by (S.says system.now) (S.had system.now))) request.now
         (streams_of (O.contents out.old) (O.contents out.new) (E.contents err.old)
         (E.contents err.new))
         (behind result.receipts (P.ways peers.new.ports) (ends_of peers.new.endings.items))
         result.end }
+    ensures admitted { AreAdmitted (clients_of request.now.job) (ends_of peers.new.endings.items)
+        (S.passes peers.new.desk).admitted }
+    ensures read { HasReadOnce (all_files (files_of request.now.job)) (S.were_read peers.old.reads)
+        (S.were_read peers.new.reads) }
 {
     let (alloc, job) = (rt.alloc(), &request.job);
     let (outputs, opened) = open_distinct(system, alloc, job);
-    let (apart, contents) = match read_opened(system, alloc, job, opened, input) {
+    let (apart, contents) = match read_opened(system, alloc, job, opened, &mut peers.reads, input) {
         Ok(read) => read,
         Err(missed) => {
             return JobEnd {
@@ -111,6 +117,7 @@ fn read_opened<S: System, I: Read>(
     alloc: Global,
     job: &Job,
     opened: Result<DistinctFiles, JobFailure>,
+    reads: &mut S::Reads,
     input: &mut I,
 ) -> Result<(DistinctFiles, Contents), JobFailure>
     requires apart { IfOk opened (λ apart. apart ≡ job.now) }
@@ -123,9 +130,11 @@ fn read_opened<S: System, I: Read>(
         ≡ length (files_of job.now).scripts) }
     ensures note { IfErr result (λ missed. IsRefused missed) }
     ensures opened { OnOk result (IsOk opened) }
+    ensures read { HasReadOnce (all_files (files_of job.now)) (S.were_read reads.old)
+        (S.were_read reads.new) }
 {
     let apart = opened?;
-    let contents = read_contents(system, alloc, &apart, job.files(), input)?;
+    let contents = read_contents(system, alloc, reads, &apart, job.files(), input)?;
     Ok((apart, contents))
 }
 
@@ -135,7 +144,7 @@ fn read_opened<S: System, I: Read>(
 fn run_job_on<R: ProgramRuntime, S: System, P: Ports, I: Read, O: Write, E: Write>(
     rt: &R,
     system: &S,
-    peers: &mut Devices<P>,
+    peers: &mut Devices<P, S::Desk, S::Reads>,
     request: &Request,
     apart: &DistinctFiles,
     contents: &Contents,
@@ -147,6 +156,7 @@ fn run_job_on<R: ProgramRuntime, S: System, P: Ports, I: Read, O: Write, E: Writ
     requires limits { IsWithinLimits request.now.job }
     requires apart { apart.now ≡ request.now.job }
     requires unserved { peers.old.endings.items ≡ [] }
+    requires no_passes { S.passes peers.old.desk ≡ no_passes }
     requires scripts { length (contents_in contents.now).scripts
         ≡ length (files_of request.now.job).scripts }
     requires opened { AreOpened S.Stream.contents
@@ -172,6 +182,9 @@ fn run_job_on<R: ProgramRuntime, S: System, P: Ports, I: Read, O: Write, E: Writ
         (E.contents err.old) (E.contents err.new) }
     ensures unkept { OnErr result.end
         (AreKept (S.holds system.now) S.received request.now.job None result.receipts) }
+    ensures admitted { AreAdmitted (clients_of request.now.job) (ends_of peers.new.endings.items)
+        (S.passes peers.new.desk).admitted }
+    ensures reads { S.were_read peers.new.reads ≡ S.were_read peers.old.reads }
 {
     let (alloc, is_quiet) = (rt.alloc(), request.is_quiet);
     match &request.job {
@@ -218,6 +231,7 @@ fn run_job_on<R: ProgramRuntime, S: System, P: Ports, I: Read, O: Write, E: Writ
                     contents,
                     lacks,
                     outputs,
+                    &mut peers.desk,
                     &mut peers.endings,
                 );
                 report_failures(alloc, lacks, is_quiet, err);

@@ -42,6 +42,7 @@ use crate::limits::UNWRITTEN;
 use crate::promises::answer;
 use crate::responding::ProgramExit;
 use named_files::HostPorts;
+use session_answers::{NameTrace, PassTrace};
 use std::fs::{File, OpenOptions};
 use std::io::Write;
 use std::os::fd::{AsRawFd, IntoRawFd};
@@ -56,7 +57,12 @@ fn main(rt: HostRuntime) -> ExitCode {
         return ExitCode::from(UNWRITTEN);
     }
     let arguments = command_line(&rt);
-    let mut peers = Devices::new(rt.alloc(), HostPorts::new(&rt));
+    let mut peers = Devices::new(
+        rt.alloc(),
+        HostPorts::new(&rt),
+        PassTrace::none(),
+        NameTrace::none(),
+    );
     let ProgramExit { code, receipts: _ } = answer(
         &rt,
         &rt,

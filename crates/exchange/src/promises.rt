@@ -14,6 +14,8 @@ ghost use Rattle.std.specs.Process.{exit_status};
 ghost use Rattle.command_words.specs.Jobs.{texts_of};
 ghost use Rattle.exchange.specs.Promises.{KeepsPromises, KeepsUnread, clients_of, saved_by, run_of};
 ghost use Rattle.exchange.specs.Promises.{world_of};
+ghost use Rattle.exchange.specs.Opened.{files_opened};
+ghost use Rattle.session_answers.specs.Passes.{no_passes};
 ghost use Rattle.named_files.specs.Notes.{IsToldInPart};
 
 use crate::devices::Devices;
@@ -31,20 +33,23 @@ use std::io::{Read, Write};
 pub fn answer<R: ProgramRuntime, S: System, P: Ports, I: Read, O: Write, E: Write>(
     rt: &R,
     system: &S,
-    peers: &mut Devices<P>,
+    peers: &mut Devices<P, S::Desk, S::Reads>,
     arguments: io::Result<Vec<String>>,
     input: &mut I,
     out: &mut O,
     err: &mut E,
 ) -> ProgramExit<S::Receipt>
-    requires { peers.old.endings.items ≡ [] }
+    requires unserved { peers.old.endings.items ≡ [] }
+    requires no_passes { S.passes peers.old.desk ≡ no_passes }
+    requires unread { S.were_read peers.old.reads ≡ [] }
     ensures arguments { IfOk arguments (λ w. KeepsPromises (S.leads system.now)
         (world_of (run_of (S.holds system.now) (I.remaining input.old)
         (Appends (O.contents out.old) (O.contents out.new)) (texts_of w.items)
         (exit_status result.code))
         (P.ways peers.old.ports) (P.ways peers.new.ports)
         (saved_by S.received result.receipts)
-        (clients_of (S.says system.now) (S.had system.now) peers.new.endings.items))
+        (clients_of (S.says system.now) (S.had system.now) peers.new.endings.items)
+        (files_opened (S.passes peers.new.desk) (S.were_read peers.new.reads)))
         (IsToldInPart (O.contents out.old) (O.contents out.new))) }
     // Where the arguments can't be read as texts.
     ensures none { OnErr arguments (KeepsUnread
@@ -52,7 +57,8 @@ pub fn answer<R: ProgramRuntime, S: System, P: Ports, I: Read, O: Write, E: Writ
         (Appends (O.contents out.old) (O.contents out.new)) [] (exit_status result.code))
         (P.ways peers.old.ports) (P.ways peers.new.ports)
         (saved_by S.received result.receipts)
-        (clients_of (S.says system.now) (S.had system.now) peers.new.endings.items))) }
+        (clients_of (S.says system.now) (S.had system.now) peers.new.endings.items)
+        (files_opened (S.passes peers.new.desk) (S.were_read peers.new.reads)))) }
 {
     respond(rt, system, peers, arguments, input, out, err)
 }

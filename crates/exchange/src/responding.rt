@@ -13,6 +13,8 @@ ghost use Rattle.named_files.specs.Outputs.{no_write_failures, IsUnwrittenTold};
 ghost use Rattle.exchange.specs.Ends.{IsLeft, IsNoneLeft, IsPrinted, leaving, streams_of, IsCutFor};
 ghost use Rattle.exchange.specs.Ends.{IsEndForArguments, IsEndWithoutArguments, IsFaultCut};
 ghost use Rattle.exchange.specs.Ends.{IsFaultEnd, IsUnwrittenOf};
+ghost use Rattle.exchange.specs.Opened.{AreOpenedFor, none_opened_by_name, files_opened};
+ghost use Rattle.session_answers.specs.Passes.{no_passes};
 
 use crate::answered::NotedAnswer;
 use crate::devices::Devices;
@@ -45,13 +47,15 @@ pub struct ProgramExit<C> {
 pub fn respond<R: ProgramRuntime, S: System, P: Ports, I: Read, O: Write, E: Write>(
     rt: &R,
     system: &S,
-    peers: &mut Devices<P>,
+    peers: &mut Devices<P, S::Desk, S::Reads>,
     arguments: io::Result<Vec<String>>,
     input: &mut I,
     out: &mut O,
     err: &mut E,
 ) -> ProgramExit<S::Receipt>
-    requires { peers.old.endings.items ≡ [] }
+    requires unserved { peers.old.endings.items ≡ [] }
+    requires no_passes { S.passes peers.old.desk ≡ no_passes }
+    requires unread { S.were_read peers.old.reads ≡ [] }
     ensures arguments { IfOk arguments (λ w.
         ((exit_status result.code ≡ UNWRITTEN)
         × IsCutFor (named_by (S.holds system.now) (S.leads system.now))
@@ -74,6 +78,11 @@ pub fn respond<R: ProgramRuntime, S: System, P: Ports, I: Read, O: Write, E: Wri
         × ((exit_status result.code ≡ UNWRITTEN)
         ⊎ IsEndWithoutArguments (O.contents out.old) (O.contents out.new)
         (exit_status result.code))) }
+    ensures opened { IfOk arguments (λ w. AreOpenedFor (texts_of w.items)
+        (ends_of peers.new.endings.items)
+        (files_opened (S.passes peers.new.desk) (S.were_read peers.new.reads))) }
+    ensures unopened { OnErr arguments (files_opened (S.passes peers.new.desk)
+        (S.were_read peers.new.reads) ≡ none_opened_by_name) }
 {
     match arguments {
         Ok(arguments) => {
@@ -134,13 +143,15 @@ fn print_without_arguments<O: Write, E: Write>(
 fn print_response<R: ProgramRuntime, S: System, P: Ports, I: Read, O: Write, E: Write>(
     rt: &R,
     system: &S,
-    peers: &mut Devices<P>,
+    peers: &mut Devices<P, S::Desk, S::Reads>,
     arguments: &[String],
     input: &mut I,
     out: &mut O,
     err: &mut E,
 ) -> (Result<u8, OutputFailure>, Receipts<S::Receipt>)
-    requires { peers.old.endings.items ≡ [] }
+    requires unserved { peers.old.endings.items ≡ [] }
+    requires no_passes { S.passes peers.old.desk ≡ no_passes }
+    requires unread { S.were_read peers.old.reads ≡ [] }
     ensures done { IfOk result.0 (IsEndForArguments
         (named_by (S.holds system.now) (S.leads system.now))
         (IsLeft (S.holds system.now) S.received result.1 (P.ways peers.new.ports)
@@ -158,6 +169,8 @@ fn print_response<R: ProgramRuntime, S: System, P: Ports, I: Read, O: Write, E: 
         (given_by (I.remaining input.old) (P.ways peers.old.ports)
         (clients_by (S.says system.now) (S.had system.now)))
         (O.contents out.old) (O.contents out.new)) }
+    ensures opened { AreOpenedFor (texts_of arguments.now) (ends_of peers.new.endings.items)
+        (files_opened (S.passes peers.new.desk) (S.were_read peers.new.reads)) }
 {
     match read_arguments(rt.alloc(), arguments) {
         Ok(request) => {

@@ -4,3 +4,4 @@ pub mod ReadNames
 pub mod Reading
 pub mod Told
 pub mod Seen
+pub mod Admitted

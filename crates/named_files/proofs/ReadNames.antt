@@ -1,10 +1,12 @@
 -- A job reads the files of its names.
-use Rattle.std.proofs.Common.{◌≡◌, ◌++◌, List, All, get_or, subst}
+use Rattle.std.proofs.Common.{◌≡◌, ◌∙◌, ◌+◌, ◌<◌, ℕ, [], ◌∷◌, ◌++◌, List, All, ap, append-nil, drop, get_or, inl, inr, length, refl, subst, sym, take}
 use Rattle.std.specs.Prelude.{Contains, option_to_list}
 use Rattle.std.proofs.lemmas.List.Elements.{Contains-append_left, Contains-append_right, Contains-get_or}
+use Rattle.std.proofs.lemmas.List.{append_assoc, take-append-drop, take_more}
 use Rattle.clap.specs.Words.{Text}
 use Rattle.command_words.specs.declared.jobs.Job.{Job}
 use Rattle.command_words.specs.Jobs.{Files, all_files, files_of}
+use Rattle.named_files.specs.Contents.{HasReadOnce, StandAmong}
 use Rattle.named_files.specs.DistinctFiles.{IsReadOf}
 
 here : (xs ys : List Text) → All (Contains (xs ++ ys)) xs
@@ -35,3 +37,56 @@ all_read names =
 
 pub read_of : (job : Job) (names : Files Text) → names ≡ files_of job → AreAllRead (all_files (files_of job)) names
 read_of job names is = subst (λ (files : Files Text). AreAllRead (all_files files) names) is (all_read names)
+
+-- ---- each once
+
+among_later : (ones front back : List Text) → StandAmong ones back → StandAmong ones (front ++ back)
+among_later [] front back is = tt
+among_later (one ∷ ones) [] back is = is
+among_later (one ∷ ones) (name ∷ front) back is = inr (among_later (one ∷ ones) front back is)
+
+among_both : (ones others front back : List Text) → StandAmong ones front → StandAmong others back → StandAmong (ones ++ others) (front ++ back)
+among_both [] others front back is are = among_later others front back are
+among_both (one ∷ ones) others [] back is are = absurd is
+among_both (one ∷ ones) others (name ∷ front) back (inl is) are = inl (is.0, among_both ones others front back is.1 are)
+among_both (one ∷ ones) others (name ∷ front) back (inr is) are = inr (among_both (one ∷ ones) others front back is are)
+
+pub read_none : (names old : List Text) → HasReadOnce names old old
+read_none names old = ([], sym (append-nil old), tt)
+
+pub read_one : (name : Text) (old new : List Text) → new ≡ old ++ name ∷ [] → HasReadOnce (name ∷ []) old new
+read_one name old new is = (name ∷ [], is, inl (refl, tt))
+
+pub read_both : (front back old mid new : List Text) → HasReadOnce front old mid → HasReadOnce back mid new → HasReadOnce (front ++ back) old new
+read_both front back old mid new first then = (
+  first.0 ++ then.0,
+  then.1 ∙ ap (λ (names : List Text). names ++ then.0) first.1 ∙ append_assoc old first.0 then.0,
+  among_both first.0 then.0 front back first.2 then.2,
+)
+
+pub read_front : (front back old new : List Text) → HasReadOnce front old new → HasReadOnce (front ++ back) old new
+read_front front back old new first = read_both front back old new new first (read_none back new)
+
+-- one more of these names
+pub read_next : (names : List Text) (i : ℕ) (name : Text) (old mid new : List Text) → i < length names → name ≡ get_or names i name
+    → HasReadOnce (take i names) old mid → HasReadOnce (name ∷ []) mid new → HasReadOnce (take (i + 1) names) old new
+read_next names i name old mid new below at first then =
+    subst (λ (ns : List Text). HasReadOnce ns old new) (sym (take_more names i name below ∙ ap (λ (x : Text). take i names ++ x ∷ []) (sym at)))
+    (read_both (take i names) (name ∷ []) old mid new first then)
+
+-- so many of these names are some of them
+pub read_some : (names : List Text) (i : ℕ) (old new : List Text) → HasReadOnce (take i names) old new → HasReadOnce names old new
+read_some names i old new is = subst (λ (ns : List Text). HasReadOnce ns old new) (take-append-drop i names)
+    (read_front (take i names) (drop i names) old new is)
+
+-- those of a job, by what they are for
+pub read_each : (names : Files Text) (old first second third fourth new : List Text) → HasReadOnce (option_to_list names.image) old first
+    → HasReadOnce (option_to_list names.list) first second → HasReadOnce (option_to_list names.schedule) second third
+    → HasReadOnce (option_to_list names.wiring) third fourth → HasReadOnce names.scripts fourth new → HasReadOnce (all_files names) old new
+read_each names old first second third fourth new image list schedule wiring scripts =
+    let c = option_to_list names.schedule in
+    let d = option_to_list names.wiring in
+    let e = names.scripts in
+    read_both (option_to_list names.image) (option_to_list names.list ++ (c ++ (d ++ e))) old first new image
+    (read_both (option_to_list names.list) (c ++ (d ++ e)) first second new list
+    (read_both c (d ++ e) second third new schedule (read_both d e third fourth new wiring scripts)))

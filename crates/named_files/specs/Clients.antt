@@ -1,5 +1,5 @@
 -- The clients of a host, by the names of their files.
-use Rattle.std.specs.Prelude.{ℕ, List, [], ◌++◌, codes, Option, Some, true, length, map}
+use Rattle.std.specs.Prelude.{◌≡◌, ℕ, List, [], ◌∷◌, ◌++◌, codes, Option, Some, true, length, map}
 use Rattle.std.specs.Prelude.{slice_index_or}
 use Rattle.session_answers.specs.HostAnswers.{KnownClients, SessionEnd, seen_end}
 use Rattle.session_answers.specs.declared.ended_session.Ending.{Ending}
@@ -16,6 +16,12 @@ clients_by comes begins names =
       named = λ k. slice_index_or names k [];
       may_fail = λ _. true;
     }
+
+-- where sessions of the clients of these names ended so, just their files were opened, those of
+-- each once; where none began, no client's were
+abbrev pub AreAdmitted : List (List ℕ) → List SessionEnd → (admitted : List (List ℕ)) → Type 0
+AreAdmitted names [] admitted = admitted ≡ []
+AreAdmitted names (end ∷ ends) admitted = admitted ≡ names
 
 -- how the sessions of clients ended, with what went to the file of each
 abbrev pub ends_of : List (Ending (List ℕ)) → List SessionEnd

@@ -1,6 +1,7 @@
 -- What the files of a job contain, of which one may be standard input.
-use Rattle.std.specs.Prelude.{◌≡◌, ◌≢◌, ℕ, List, [], ◌∷◌, Option, IfSome, map, option_map}
-use Rattle.std.specs.Prelude.{option_to_list}
+use Rattle.std.specs.Prelude.{◌≡◌, ◌≢◌, ◌⊎◌, ⊤, ℕ, List, [], ◌∷◌, ◌++◌, Option, IfSome, map}
+use Rattle.std.specs.Prelude.{option_map, option_to_list}
+use Rattle.clap.specs.Words.{Text}
 use Rattle.command_words.specs.Jobs.{Files, input_name}
 use Rattle.named_files.specs.declared.contents.Contents.{Contents}
 
@@ -14,6 +15,18 @@ abbrev pub IsFileRead : Holding → Option (List ℕ) → List ℕ → List ℕ 
 IsFileRead holds before name bytes after =
     (name ≡ input_name → IfSome before (λ known. bytes ≡ known))
     × (name ≢ input_name → holds name bytes × (after ≡ before))
+
+-- the first names stand among the others, in their order, each at a place of its own
+abbrev pub StandAmong : List Text → List Text → Type 0
+StandAmong [] names = ⊤
+StandAmong (one ∷ ones) [] = ⊥
+StandAmong (one ∷ ones) (name ∷ names) =
+    ((one ≡ name) × StandAmong ones names) ⊎ StandAmong (one ∷ ones) names
+
+-- files of these names were read, each once at most, and no other
+abbrev pub HasReadOnce : List Text → (before after : List Text) → Type 0
+HasReadOnce names before after =
+    (read : List Text) × (after ≡ before ++ read) × StandAmong read names
 
 -- files of these names were read, one after another
 abbrev pub AreRead : Holding → Option (List ℕ) → List (List ℕ) → List (List ℕ)

@@ -1,12 +1,13 @@
 //! What a job's files contain, of which one may be standard input.
 
-ghost use Rattle.std.specs.Prelude.{◌≡◌, [], All, IfOk, IfErr, map, option_map, option_to_list};
-ghost use Rattle.std.specs.Prelude.{unwrap_or};
+ghost use Rattle.std.specs.Prelude.{◌≡◌, [], ◌∷◌, All, IfOk, IfErr, map, option_map};
+ghost use Rattle.std.specs.Prelude.{option_to_list, unwrap_or};
 ghost use Rattle.plan_answers.specs.Lent.{bytes_of};
 ghost use Rattle.plan_answers.specs.Schedules.{said_by, source_map};
 ghost use Rattle.command_words.specs.Files.{file_names};
-ghost use Rattle.command_words.specs.Jobs.{files_of};
-ghost use Rattle.named_files.specs.Contents.{AreContents, AreRead, IsFileRead, contents_in};
+ghost use Rattle.command_words.specs.Jobs.{all_files, files_of};
+ghost use Rattle.named_files.specs.Contents.{AreContents, AreRead, HasReadOnce, IsFileRead};
+ghost use Rattle.named_files.specs.Contents.{contents_in};
 ghost use Rattle.named_files.specs.DistinctFiles.{IsReadOf};
 ghost use Rattle.named_files.specs.Notes.{IsRefused};
 
@@ -29,10 +30,11 @@ pub struct Contents {
     pub scripts: Vec<Vec<u8>>,
 }
 
-/// Reads a job's files, one after another. The first that can't be read is the error.
+/// Reads a job's files, one after another, each once. The first that can't be read is the error.
 pub fn read_contents<S: System, I: Read>(
     system: &S,
     alloc: Global,
+    reads: &mut S::Reads,
     apart: &DistinctFiles,
     files: JobFiles<'_>,
     input: &mut I,
@@ -42,13 +44,15 @@ pub fn read_contents<S: System, I: Read>(
         (I.remaining input.old) (file_names files.entry) (contents_in contents)
         (I.remaining input.new)) }
     ensures note { IfErr result (λ missed. IsRefused missed) }
+    ensures read { HasReadOnce (all_files (file_names files.entry))
+        (S.were_read reads.old) (S.were_read reads.new) }
 {
     Ok(Contents {
-        image: read_option(system, alloc, apart, files.image, input)?,
-        list: read_option(system, alloc, apart, files.list, input)?,
-        schedule: read_option(system, alloc, apart, files.schedule, input)?,
-        wiring: read_option(system, alloc, apart, files.wiring, input)?,
-        scripts: read_files(system, alloc, apart, files.scripts, input)?,
+        image: read_option(system, alloc, reads, apart, files.image, input)?,
+        list: read_option(system, alloc, reads, apart, files.list, input)?,
+        schedule: read_option(system, alloc, reads, apart, files.schedule, input)?,
+        wiring: read_option(system, alloc, reads, apart, files.wiring, input)?,
+        scripts: read_files(system, alloc, reads, apart, files.scripts, input)?,
     })
 }
 
@@ -56,6 +60,7 @@ pub fn read_contents<S: System, I: Read>(
 fn read_option<S: System, I: Read>(
     system: &S,
     alloc: Global,
+    reads: &mut S::Reads,
     apart: &DistinctFiles,
     name: Option<&Text>,
     input: &mut I,
@@ -65,9 +70,11 @@ fn read_option<S: System, I: Read>(
         (option_to_list (bytes_of name.entry))
         (option_to_list (option_map (λ file. file.items) file)) (I.remaining input.new)) }
     ensures note { IfErr result (λ missed. IsRefused missed) }
+    ensures read { HasReadOnce (option_to_list (bytes_of name.entry))
+        (S.were_read reads.old) (S.were_read reads.new) }
 {
     match name {
-        Some(name) => Ok(Some(read_file(system, alloc, apart, name, input)?)),
+        Some(name) => Ok(Some(read_file(system, alloc, reads, apart, name, input)?)),
         None => Ok(None),
     }
 }
@@ -76,6 +83,7 @@ fn read_option<S: System, I: Read>(
 fn read_files<S: System, I: Read>(
     system: &S,
     alloc: Global,
+    reads: &mut S::Reads,
     apart: &DistinctFiles,
     names: &[Text],
     input: &mut I,
@@ -84,10 +92,12 @@ fn read_files<S: System, I: Read>(
     ensures content { IfOk result (λ files. AreRead (S.holds system.now) (I.remaining input.old)
         names.now (map (λ file. file.items) files.items) (I.remaining input.new)) }
     ensures note { IfErr result (λ missed. IsRefused missed) }
+    ensures read { HasReadOnce names.now
+        (S.were_read reads.old) (S.were_read reads.new) }
 {
     let mut files = Vec::new(alloc);
     for name in names {
-        let file = read_file(system, alloc, apart, name, input)?;
+        let file = read_file(system, alloc, reads, apart, name, input)?;
         files.push(file).map_err(|_| AllocError)?;
     }
     Ok(files)
@@ -97,6 +107,7 @@ fn read_files<S: System, I: Read>(
 fn read_file<S: System, I: Read>(
     system: &S,
     alloc: Global,
+    reads: &mut S::Reads,
     apart: &DistinctFiles,
     name: &Text,
     input: &mut I,
@@ -105,8 +116,10 @@ fn read_file<S: System, I: Read>(
     ensures content { IfOk result (λ file. IsFileRead (S.holds system.now) (I.remaining input.old)
         name.now file.items (I.remaining input.new)) }
     ensures note { IfErr result (λ missed. IsRefused missed) }
+    ensures read { HasReadOnce (name.now ∷ [])
+        (S.were_read reads.old) (S.were_read reads.new) }
 {
-    match read_bytes(system, alloc, apart, name, input) {
+    match read_bytes(system, alloc, reads, apart, name, input) {
         Ok(file) => Ok(file),
         Err(error) => Err(read_failure(alloc, name, &error)),
     }
@@ -116,16 +129,19 @@ fn read_file<S: System, I: Read>(
 fn read_bytes<S: System, I: Read>(
     system: &S,
     alloc: Global,
+    reads: &mut S::Reads,
     apart: &DistinctFiles,
     name: &Text,
     input: &mut I,
 ) -> io::Result<Vec<u8>>
     requires { IsReadOf apart.now name.now }
-    ensures { IfOk result (λ file. IsFileRead (S.holds system.now) (I.remaining input.old)
+    ensures content { IfOk result (λ file. IsFileRead (S.holds system.now) (I.remaining input.old)
         name.now file.items (I.remaining input.new)) }
+    ensures read { HasReadOnce (name.now ∷ [])
+        (S.were_read reads.old) (S.were_read reads.new) }
 {
     if !name.is_input() {
-        return system.read(apart, name.as_str());
+        return system.read(reads, apart, name.as_str());
     }
     let mut file = Vec::new(alloc);
     input.read_to_end(&mut file)?;

@@ -1,13 +1,22 @@
 //! The files of the real system. Which bytes they hold contracts don't say.
 
-use crate::client_streams::ClientFiles;
+ghost use Rattle.std.specs.Prelude.{◌≡◌, [], IfOk};
+
+use crate::client_streams::{ClientFile, ClientFiles};
 use crate::distinct_files::DistinctFiles;
 use crate::output_file::{ClosedFile, OutputFile, empty_alone};
 use crate::system::System;
-use crate::traced_file::TracedFile;
-use session_answers::ThreadsStarted;
+use crate::traced_file::{TracedFile, passed};
+use byte_streams::PassedBytes;
+use session_answers::{NameTrace, PassTrace, ThreadsStarted};
 use std::fs::{File, OpenOptions};
 use std::{fs, io};
+
+/// A pass for the files of the client of a name, which contracts alone see.
+#[derive(Drop)]
+pub struct ClientPass {
+    named: PassedBytes,
+}
 
 impl System for HostRuntime {
     ghost use Rattle.std.specs.Prelude.{⊤, Some};
@@ -17,11 +26,21 @@ impl System for HostRuntime {
 
     type Receipt = ClosedFile;
 
+    type Reads = NameTrace;
+
     ghost holds = { λ _ _ _. ⊤ };
 
     ghost received = { λ file. closed file.named (Some file.sent) file.durable };
 
-    fn read(&self, _apart: &DistinctFiles, name: &str) -> io::Result<Vec<u8>> {
+    ghost were_read = { λ reads. reads };
+
+    fn read(
+        &self,
+        reads: &mut NameTrace,
+        _apart: &DistinctFiles,
+        name: &str,
+    ) -> io::Result<Vec<u8>> {
+        reads.add(name);
         fs::read(self, name)
     }
 
@@ -60,25 +79,53 @@ impl ClientFiles for HostRuntime {
 
     type Input = File;
 
+    type Desk = PassTrace;
+
+    type Pass = ClientPass;
+
     ghost says = { λ _ _. None };
 
     ghost had = { λ _ _. [] };
 
-    fn open_input(&self, _there: &ThreadsStarted, name: &str) -> io::Result<File> {
-        File::open(self, name)
+    ghost named = { λ pass. pass.named };
+
+    ghost passes = { λ desk. desk };
+
+    fn pass(&self, desk: &mut PassTrace, name: &str) -> ClientPass {
+        desk.give(name);
+        ClientPass {
+            named: passed(name.as_bytes()),
+        }
     }
 
-    fn open_output(
+    fn admit(&self, desk: &mut PassTrace) {
+        desk.admit();
+    }
+
+    fn open_files(
         &self,
         _there: &ThreadsStarted,
         _apart: &DistinctFiles,
-        name: &str,
-    ) -> io::Result<TracedFile> {
-        let file = OpenOptions::new()
-            .write(true)
-            .create(true)
-            .open(self, name)?;
-        empty_alone(&file)?;
-        Ok(TracedFile::of(file))
+        _pass: ClientPass,
+        input: &str,
+        output: &str,
+    ) -> Result<(File, TracedFile), (ClientFile, io::Error)> {
+        let heard = match File::open(self, input) {
+            Ok(heard) => heard,
+            Err(error) => return Err((ClientFile::Input, error)),
+        };
+        match open_output(self, output) {
+            Ok(told) => Ok((heard, told)),
+            Err(error) => Err((ClientFile::Output, error)),
+        }
     }
+}
+
+/// Opens the file of a client's output: it is made where it isn't there, and emptied.
+fn open_output(rt: &HostRuntime, name: &str) -> io::Result<TracedFile>
+    ensures { IfOk result (λ told. told.sent ≡ []) }
+{
+    let file = OpenOptions::new().write(true).create(true).open(rt, name)?;
+    empty_alone(&file)?;
+    Ok(TracedFile::of(file))
 }

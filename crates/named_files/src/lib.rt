@@ -31,10 +31,11 @@ mod system;
 mod traced_file;
 mod write_failures;
 
-pub use client_streams::{ClientFiles, FileStreams};
+pub use client_streams::{ClientFile, ClientFiles, FileStreams};
 pub use contents::{Contents, read_contents, slice_of, source_with, text_of};
 pub use distinct_files::DistinctFiles;
 pub use file_id::{FileId, FileKind, PathLookup};
+pub use host_system::ClientPass;
 pub use io_failure::IoFailure;
 pub use notes::{JobFailure, failure_line, read_failure, reason_line, tell_line, tell_note};
 pub use output_failure::OutputFailure;

@@ -1,7 +1,7 @@
 //! What the program asks of the system by name.
 
-ghost use Rattle.std.specs.Prelude.{◌≡◌, ◌≤◌, ℕ, false, is_ok, length, take, List, [], Some, IfOk};
-ghost use Rattle.std.specs.Prelude.{OnOk, OnErr};
+ghost use Rattle.std.specs.Prelude.{◌≡◌, ◌≤◌, ◌++◌, ◌∷◌, ℕ, false, is_ok, length, take, List, []};
+ghost use Rattle.std.specs.Prelude.{Some, IfOk, OnOk, OnErr};
 ghost use Rattle.named_files.specs.DistinctFiles.{IsReadOf, IsWrittenOf};
 ghost use Rattle.named_files.specs.Streams.{Closed, IsLeftOf, written_to};
 
@@ -28,6 +28,8 @@ pub trait System: PathLookup + ClientFiles + Sync {
     type Stream: Write + Send;
     /// What is left of a stream that was closed.
     type Receipt;
+    /// What takes down which files were read. Who is handed any system can make none.
+    type Reads;
 
     /// The file of this name holds these bytes.
     ghost holds: { Self → List ℕ → List ℕ → Type 0 };
@@ -35,10 +37,19 @@ pub trait System: PathLookup + ClientFiles + Sync {
     /// What is known of the stream of which this is left.
     ghost received: { Self.Receipt → Closed };
 
-    /// Reads the file of this name to its end. It is one that the job reads.
-    fn read(&self, apart: &DistinctFiles, name: &str) -> io::Result<Vec<u8>>
+    /// The names of the files that were read, in that order.
+    ghost were_read: { Self.Reads → List (List ℕ) };
+
+    /// Reads the file of this name to its end, and takes that down. It is one that the job reads.
+    fn read(
+        &self,
+        reads: &mut Self::Reads,
+        apart: &DistinctFiles,
+        name: &str,
+    ) -> io::Result<Vec<u8>>
         requires { IsReadOf apart.now name.now }
-        ensures { IfOk result (λ bytes. holds self.now name.now bytes.items) };
+        ensures content { IfOk result (λ bytes. holds self.now name.now bytes.items) }
+        ensures read { were_read reads.new ≡ were_read reads.old ++ name.now ∷ [] };
 
     /// Opens the file of this name, to be written after what it holds, and reads that. It is made
     /// where it isn't there. A device or a pipe holds nothing. With `syncs` each flush waits until

@@ -1,5 +1,6 @@
 -- What comes of live sessions.
-use Rattle.std.proofs.Common.{◌≡◌, ◌≢◌, ◌⊎◌, ◌∙◌, List, [], ℕ, Option, Some, None, Result, Ok, Err, ap, inl, inr, sym, subst, refl}
+use Rattle.std.proofs.Common.{◌≡◌, ◌≢◌, ◌⊎◌, ◌∙◌, Bool, List, [], ◌∷◌, ℕ, Option, Some, None, Result, Ok, Err, ap, inl, inr, length, map, sym, subst, refl}
+use Rattle.std.specs.List.{range_with_len}
 use Rattle.clap.specs.Words.{Text}
 use Rattle.module_memory.specs.Store.{Store}
 use Rattle.batch_book.specs.History.{BookView}
@@ -8,10 +9,10 @@ use Rattle.rack_answers.specs.Openings.{IsRackOf}
 use Rattle.refusals.specs.declared.refusal.Refusal.{Refusal}
 use Rattle.refusals.specs.declared.refusal.Refusal.TheVariants.{NoMemory, Threads}
 use Rattle.command_words.specs.declared.jobs.SharedRack.{SharedRack}
-use Rattle.session_answers.specs.HostAnswers.{KnownClients}
+use Rattle.session_answers.specs.HostAnswers.{HostedSession, KnownClients, SessionEnd}
 use Rattle.session_answers.specs.declared.ended_session.Ending.{Ending}
-use Rattle.named_files.specs.Clients.{ends_of}
-use Rattle.recorded_sessions.specs.Live.{IsHostOver, IsLived, IsTalkOver, IsUnserved, left_by}
+use Rattle.named_files.specs.Clients.{AreAdmitted, clients_by, ends_of}
+use Rattle.recorded_sessions.specs.Live.{AreAdmittedBy, IsHostOver, IsLived, IsTalkOver, IsUnserved, left_by}
 use Rattle.recorded_sessions.specs.Outcomes.{IsToldBy}
 use Rattle.recorded_sessions.specs.Keeping.{AreLiveKept}
 use Rattle.recorded_sessions.specs.Records.{BeginsWith, IsCutFromRecord}
@@ -121,3 +122,22 @@ talk_ending shared before after told was left (Err e) over = record {
   so = λ why is. over.2.1;
   refused = λ why is not_memory q. absurd (not_memory (let same : e ≡ why = (let x = is in cc) in sym same ∙ over.0));
 }
+
+-- ---- whose files were opened
+
+ended_admitted : (names : List Text) (es : List SessionEnd) (vs : List HostedSession) (admitted : List Text) → map (λ (v : HostedSession). v.end) vs ≡ es
+    → map (λ (v : HostedSession). v.part.session) vs ≡ range_with_len 0 (length names) → admitted ≡ names → AreAdmitted names es admitted
+ended_admitted names (e ∷ es) vs admitted ended numbers is = is
+ended_admitted [] [] vs admitted ended numbers is = is
+ended_admitted (name ∷ names) [] [] admitted ended numbers is = absurd (cc)
+ended_admitted (name ∷ names) [] (v ∷ vs) admitted ended numbers is = absurd (cc)
+
+-- the clients of a host were admitted where their sessions ended
+pub admitted_so : (loses : Bool) (was : BookView) (comes : List ℕ → Option (List ℕ)) (begins : List ℕ → List ℕ) (names : List Text)
+    (before after : List (Ending (List ℕ))) (end : Result Printed Refusal) (left : BookView) (admitted : List Text)
+    → before ≡ [] → IsHostOver loses was (clients_by comes begins names) before after end left → AreAdmittedBy names end admitted
+    → AreAdmitted names (ends_of after) admitted
+admitted_so loses was comes begins names before after (Ok p) left admitted none over is = ended_admitted names (ends_of after) over.0 admitted over.1
+    over.2.numbers is
+admitted_so loses was comes begins names before after (Err why) left admitted none over is =
+    subst (λ (es : List SessionEnd). AreAdmitted names es admitted) (sym (none_ended before after none over.2)) is

@@ -105,6 +105,11 @@ IsHostOver loses was clients before after (Ok end) left =
 IsHostOver loses was clients before after (Err refusal) left =
     IsUnhosted refusal × HaveOneHistory loses was.opening was.history [] left × (after ≡ before)
 
+-- the clients of these names were admitted to their sessions, or none was
+abbrev pub AreAdmittedBy : List Text → Result Printed Refusal → List Text → Type 0
+AreAdmittedBy names (Ok end) admitted = admitted ≡ names
+AreAdmittedBy names (Err refusal) admitted = admitted ≡ []
+
 -- a client had its session over a book, and was told this; or there was no memory for it
 abbrev pub IsTalkOver : Bool → BookView → (before after : Option (List ℕ)) → List ℕ
     → Result Printed Refusal → BookView → Type 0

@@ -10,11 +10,12 @@ ghost use Rattle.client_session.specs.Listening.{TellsOfRefusals};
 ghost use Rattle.command_words.specs.Jobs.{CanBeServed, recorded_in};
 ghost use Rattle.command_words.specs.declared.jobs.Job.TheVariants.{Sessions};
 ghost use Rattle.command_words.specs.declared.jobs.SessionJob.TheVariants.{Host};
+ghost use Rattle.session_answers.specs.Passes.{no_passes};
 ghost use Rattle.session_answers.specs.Serving.{IsServeAnswer};
-ghost use Rattle.named_files.specs.Clients.{clients_by, ends_of};
+ghost use Rattle.named_files.specs.Clients.{AreAdmitted, clients_by, ends_of};
 ghost use Rattle.named_files.specs.Contents.{contents_in};
-ghost use Rattle.recorded_sessions.specs.Live.{IsHostOver, IsLived, IsFinishedBookAt, IsOverFrom};
-ghost use Rattle.recorded_sessions.specs.Live.{IsReady, IsTalkOver};
+ghost use Rattle.recorded_sessions.specs.Live.{AreAdmittedBy, IsHostOver, IsLived};
+ghost use Rattle.recorded_sessions.specs.Live.{IsFinishedBookAt, IsOverFrom, IsReady, IsTalkOver};
 ghost use Rattle.named_files.specs.Notes.{IsRefused};
 ghost use Rattle.named_files.specs.Outputs.{AreNamed, AreOpened, IsFileWritten, IsOpened, is_new};
 ghost use Rattle.named_files.specs.Outputs.{no_write_failures, name_of};
@@ -154,15 +155,19 @@ fn host_over<K: History + Send, R: Clock + Threads + Wait + Sync, S: ClientFiles
     book: Book<K>,
     workers: WorkerCount,
     streams: &FileStreams<'_, S>,
+    desk: &mut S::Desk,
     endings: &mut Vec<Ending<PassedBytes>>,
 ) -> (Result<Answer, Refusal>, Book<K>)
     requires clients { CanBeServed streams.now.clients.now }
     requires ready { IsReady book }
-    ensures { IsHostOver K.loses book
+    requires no_passes { S.passes desk.old ≡ no_passes }
+    ensures over { IsHostOver K.loses book
         (clients_by (S.says streams.now.system.now) (S.had streams.now.system.now)
         streams.now.clients.now) endings.old.items endings.new.items result.0 result.1 }
+    ensures admitted { AreAdmittedBy streams.now.clients.now result.0
+        (S.passes desk.new).admitted }
 {
-    match host_on(rt, alloc, book, workers, streams) {
+    match host_on(rt, alloc, book, workers, streams, desk) {
         Ok(hosted) => {
             *endings = hosted.endings;
             let ClosedSessions { answer, book } = hosted.closing;
@@ -182,6 +187,7 @@ fn host_recorded<N: StreamName + Send, R: Clock + Threads + Wait + Sync, S: Syst
     groups_writes: bool,
     workers: WorkerCount,
     streams: &FileStreams<'_, S>,
+    desk: &mut S::Desk,
     endings: &mut Vec<Ending<PassedBytes>>,
 ) -> FinishedSessions<S::Stream>
     requires held { S.Stream.contents stream ≡ N.held }
@@ -189,14 +195,17 @@ fn host_recorded<N: StreamName + Send, R: Clock + Threads + Wait + Sync, S: Syst
     requires entries { entries ≡ numbered (length book.history) }
     requires clients { CanBeServed streams.now.clients.now }
     requires ready { IsReady book }
+    requires no_passes { S.passes desk.old ≡ no_passes }
     ensures stream { is_some result.stream ≡ true }
     ensures over { (left : BookView) × IsFinishedBookAt S.Stream.contents N.held book left result
         × IsHostOver true book
         (clients_by (S.says streams.now.system.now) (S.had streams.now.system.now)
         streams.now.clients.now) endings.old.items endings.new.items result.end left }
+    ensures admitted { AreAdmittedBy streams.now.clients.now result.end
+        (S.passes desk.new).admitted }
 {
     let book = attach_stream::<S::Stream, N>(alloc, book, entries, stream, groups_writes);
-    let (end, book) = host_over(rt, alloc, book, workers, streams, endings);
+    let (end, book) = host_over(rt, alloc, book, workers, streams, desk, endings);
     finish_recorded(end, book)
 }
 
@@ -213,15 +222,19 @@ fn host_from<R: Clock + Threads + Wait + Sync, S: System>(
     groups_writes: bool,
     workers: WorkerCount,
     streams: &FileStreams<'_, S>,
+    desk: &mut S::Desk,
     endings: &mut Vec<Ending<PassedBytes>>,
 ) -> FinishedSessions<S::Stream>
     requires clients { CanBeServed streams.now.clients.now }
     requires ready { IsReady start.book }
     requires entries { start.entries ≡ numbered (length start.book.history) }
+    requires no_passes { S.passes desk.old ≡ no_passes }
     ensures over { (left : BookView) × IsOverFrom S.Stream.contents start left result
         × IsHostOver (is_some start.stream) start.book
         (clients_by (S.says streams.now.system.now) (S.had streams.now.system.now)
         streams.now.clients.now) endings.old.items endings.new.items result.end left }
+    ensures admitted { AreAdmittedBy streams.now.clients.now result.end
+        (S.passes desk.new).admitted }
 {
     let SessionsStart {
         book,
@@ -239,17 +252,18 @@ fn host_from<R: Clock + Threads + Wait + Sync, S: System>(
             groups_writes,
             workers,
             streams,
+            desk,
             endings,
         ),
         None => {
-            let (end, book) = host_over(rt, alloc, book, workers, streams, endings);
+            let (end, book) = host_over(rt, alloc, book, workers, streams, desk, endings);
             finish_unrecorded(end, book)
         }
     }
 }
 
-/// What comes of `exchange host SHAPE CLIENT..`, with how the sessions of the clients ended. Which
-/// of their files couldn't be opened is kept.
+/// What comes of `exchange host SHAPE CLIENT..`, with how the sessions of the clients ended, for
+/// whose files the desk gives passes. Which of these couldn't be opened is kept.
 pub fn host<R: ProgramRuntime, S: System>(
     rt: &R,
     system: &S,
@@ -260,18 +274,22 @@ pub fn host<R: ProgramRuntime, S: System>(
     contents: &Contents,
     unopened: &[OnceLock<IoFailure>],
     outputs: Outputs<'_, S::Stream>,
+    desk: &mut S::Desk,
     endings: &mut Vec<Ending<PassedBytes>>,
 ) -> SessionsResult<S::Receipt>
     requires clients { CanBeServed clients.now }
     requires apart { apart.now ≡ Sessions shared.now (Host clients.now workers) }
+    requires no_passes { S.passes desk.old ≡ no_passes }
     requires unserved { endings.old.items ≡ [] }
     requires opened { AreOpened S.Stream.contents (S.holds system.now) (recorded_in shared.now)
         shared.now.image_out outputs }
     requires named { AreNamed (recorded_in shared.now) shared.now.image_out outputs }
-    ensures { IsLived (S.holds system.now) S.received shared.now clients.now
+    ensures lived { IsLived (S.holds system.now) S.received shared.now clients.now
         (contents_in contents.now).image (hosting shared.now
         (clients_by (S.says system.now) (S.had system.now) clients.now) (ends_of endings.new.items))
         (ends_of endings.new.items ≡ []) result }
+    ensures admitted { AreAdmitted clients.now (ends_of endings.new.items)
+        (S.passes desk.new).admitted }
 {
     let begun = start_live(rt, system, shared, clients, contents, workers, outputs);
     let (start, image) = match begun {
@@ -294,6 +312,7 @@ pub fn host<R: ProgramRuntime, S: System>(
         groups_writes(shared),
         workers,
         &streams,
+        desk,
         endings,
     );
     finish_live(system, alloc, shared, over, image, cut)

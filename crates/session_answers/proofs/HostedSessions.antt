@@ -3,9 +3,9 @@ use Rattle.std.proofs.Common.{◌≡◌, ℕ, ◌+◌, ◌<◌, ◌≤◌, zero,
 use Rattle.std.proofs.Common.{append-nil, inl, inr, arith}
 use Rattle.std.specs.List.{range_with_len, list_any, flat_map}
 use Rattle.std.proofs.lemmas.Bool.{cases_lt}
-use Rattle.std.proofs.lemmas.List.{length-map, length-take-le, append_assoc, map-append, take_more}
+use Rattle.std.proofs.lemmas.List.{length-map, length-take-le, append_assoc, map-append, map-id, take_more}
 use Rattle.std.proofs.lemmas.List.Elements.{All-map}
-use Rattle.std.proofs.lemmas.List.FromFn.{length-range_with_len}
+use Rattle.std.proofs.lemmas.List.FromFn.{get_or-range_with_len, length-range_with_len}
 use Rattle.std.proofs.lemmas.Simd.{map-map}
 use Rattle.std.specs.Io.KnownBytes.{Appends}
 use Rattle.batch_book.specs.declared.entry.Entry.{Entry}
@@ -24,7 +24,7 @@ use Rattle.session_answers.specs.HostTexts.{ends_text, room_of, session_room}
 use Rattle.plan_answers.specs.Refusals.{Printed}
 use Rattle.session_answers.specs.Sessions.{beginning, IsServedSession}
 use Rattle.session_answers.specs.HostedSessions.{Ended, hosted_session, AreAllHosted, AreEach, IsOfSeat, AreHostedSessionsAt, HasReturned, HaveReturned, begins}
-use Rattle.session_answers.proofs.Sessions.{fresh_seat, seats_back}
+use Rattle.session_answers.proofs.Sessions.{fresh_seat, map_same, seats_back}
 
 -- ---- what is so one by one
 
@@ -45,6 +45,12 @@ pub each_push : {A B : Type 0} (P : A → B → Type 0) (xs : List A) (ys : List
 each_push P [] [] x y each one = (one, tt)
 each_push P (a ∷ xs) (b ∷ ys) x y each one = (each.0, each_push P xs ys x y each.1 one)
 each_push P xs ys x y each one = absurd each
+
+each_mapped : {X A B : Type 0} (P : A → B → Type 0) (f : X → A) (xs : List X) (ys : List B) → AreEach P (map f xs) ys → AreEach (λ x. P (f x)) xs ys
+each_mapped P f [] [] each = tt
+each_mapped P f (x ∷ xs) (y ∷ ys) each = (each.0, each_mapped P f xs ys each.1)
+each_mapped P f [] (y ∷ ys) each = absurd each
+each_mapped P f (x ∷ xs) [] each = absurd each
 
 -- the first of what is left
 each_split : {A B : Type 0} (P : A → B → Type 0) (rest : List A) (y : B) (more : List B) → AreEach P rest (y ∷ more) → (x : A) × (xs : List A) × (rest ≡ x ∷ xs)
@@ -79,6 +85,18 @@ moved all done ys more y first was = append_assoc done (y ∷ []) more ∙ ap (�
 -- the seats of a new exchange have asked nothing
 pub all_fresh : (x : Exchange) (start n : ℕ) (seats : List SeatState) → AreNew x.word start n seats → All (IsFresh x) seats
 all_fresh x start n seats new k d lt = fresh_seat (new.each k d (omega (arith, new.count, lt)))
+
+-- those of the clients of these numbers are those of their seats
+pub each_of_seats : {P : Type 0} (admits : ℕ → P → Type 0) (x : Exchange) (start n : ℕ) (seats : List SeatState) (passes : List P)
+    → AreNew x.word start n seats → AreEach admits (range_with_len 0 n) passes → AreEach (λ (s : SeatState). admits s.session) seats passes
+each_of_seats {P} admits x start n seats passes new each =
+    let numbers : map (λ (s : SeatState). s.session) seats ≡ map (λ (n : ℕ). n) (range_with_len 0 n) =
+    map_same (λ (s : SeatState). s.session) (λ (n : ℕ). n) seats (range_with_len 0 n) (omega (arith, new.count, length-range_with_len 0 n))
+    (λ k s e lt.
+    let here = get_or-range_with_len 0 n k e (omega (arith, new.count)) in
+    ap (λ (t : SeatState). t.session) (new.each k s (omega (arith, new.count, lt))) ∙ omega (arith, here)) in
+    each_mapped admits (λ (s : SeatState). s.session) seats passes
+    (subst (λ (ns : List ℕ). AreEach admits ns passes) (sym (numbers ∙ map-id (range_with_len 0 n))) each)
 
 -- and are all that it has
 pub all_new : (x : Exchange) (start n : ℕ) (seats : List SeatState) → AreNew x.word start n seats → AreAllSeats x seats

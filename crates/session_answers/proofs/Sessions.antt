@@ -34,7 +34,7 @@ use Rattle.session_answers.specs.Hosting.{transcript, begun_at, AreAllSeats, IsF
 -- ---- lists
 
 -- lists of which some value agrees place by place
-map_same : {A B C : Type 0} (f : A → C) (g : B → C) (xs : List A) (ys : List B) → length xs ≡ length ys
+pub map_same : {A B C : Type 0} (f : A → C) (g : B → C) (xs : List A) (ys : List B) → length xs ≡ length ys
     → ((k : ℕ) (d : A) (e : B) → k < length xs → f (get_or xs k d) ≡ g (get_or ys k e)) → map f xs ≡ map g ys
 map_same f g [] [] len same = refl
 map_same {A} {B} {C} f g (x ∷ xs) (y ∷ ys) len same =

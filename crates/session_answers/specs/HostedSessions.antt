@@ -77,16 +77,16 @@ pub record IsOf {L D K E Q : Type 0} (known : D → KnownClients) (x : Exchange)
   pub its_seat : p.seat.value ≡ seat
 
 -- the thread of this seat, or what it would give back
-abbrev pub IsThreadOf : {L D K R W C E Q : Type 0} → Bool → (D → KnownClients)
+abbrev pub IsThreadOf : {L D K R W C B P E Q : Type 0} → Bool → (D → KnownClients)
     → (C → Option (List ℕ)) → Exchange → KnownClients → ℕ → SeatState
-    → SeatThread L D K R W C E Q → Type 0
+    → SeatThread L D K R W C B P E Q → Type 0
 IsThreadOf loses known received x g latch seat (Started thread) =
     IsOf known x g latch seat thread.promise
 IsThreadOf loses known received x g latch seat (Refused returned) =
     IsReturned loses x g received latch seat returned
 
 -- it couldn't be had
-abbrev pub is_refused : {L D K R W C E Q : Type 0} → SeatThread L D K R W C E Q → Bool
+abbrev pub is_refused : {L D K R W C B P E Q : Type 0} → SeatThread L D K R W C B P E Q → Bool
 is_refused (Started thread) = false
 is_refused (Refused returned) = true
 

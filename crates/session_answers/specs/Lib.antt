@@ -7,3 +7,4 @@ pub mod Talking
 pub mod HostAnswers
 pub mod HostTexts
 pub mod HostedSessions
+pub mod Passes

@@ -2,6 +2,7 @@
 
 ghost use Rattle.std.specs.Prelude.{◌≡◌, ◌≤◌, ◌+◌, ◌++◌, [], All, List, IfOk, IfErr, length};
 ghost use Rattle.std.specs.Prelude.{vec_capacity};
+ghost use Rattle.std.specs.List.{range_with_len};
 ghost use Rattle.std.specs.Vec.Iter.{into_iter_items};
 ghost use Rattle.batch_book.specs.Exchanges.{AreNew};
 ghost use Rattle.batch_book.specs.Seats.{SeatState};
@@ -98,18 +99,20 @@ fn begins<'a>(
     }
 }
 
-/// Serves the client of a seat, once it has opened its files.
+/// Serves the client of a seat, once it has opened its files by its pass.
 fn host_client<L: ExchangeName, R: SessionRuntime, D: ClientStreams, K: History>(
     context: &HostContext<'_, L, R, D, K>,
     there: ThreadsStarted,
     seat: Seat<L>,
+    pass: D::Pass,
 ) -> (Seat<L>, Ending<D::Receipt>)
     requires there { there.threads ≡ (D.known context.now.streams.now).clients }
     requires seat { IsFresh context.now.exchange.now seat }
+    requires pass { D.admits context.now.streams.now seat.session pass }
     ensures { IsOfSeat K.loses context.now.exchange.now (D.known context.now.streams.now)
         D.received seat result }
 {
-    let Ok((mut reader, mut writer)) = context.streams.open(there, seat.session()) else {
+    let Ok((mut reader, mut writer)) = context.streams.open(there, seat.session(), pass) else {
         return (seat, Ending::Unopened);
     };
     let (seat, fault) = serve_client(
@@ -131,8 +134,10 @@ fn host_client<L: ExchangeName, R: SessionRuntime, D: ClientStreams, K: History>
 fn wait_and_host<'a, L: ExchangeName, R: SessionRuntime, D: ClientStreams, K: History>(
     context: &HostContext<'a, L, R, D, K>,
     seat: Seat<L>,
+    pass: D::Pass,
 ) -> Returned<'a, L, D::Receipt>
     requires seat { IsFresh context.now.exchange.now seat }
+    requires pass { D.admits context.now.streams.now seat.session pass }
     ensures { IsReturned K.loses context.now.exchange.now (D.known context.now.streams.now)
         D.received context.now.latch.now.id seat result }
 {
@@ -142,7 +147,7 @@ fn wait_and_host<'a, L: ExchangeName, R: SessionRuntime, D: ClientStreams, K: Hi
     let decided = latch.init(context.rt, || None);
     match *latch.value(&decided) {
         Some(there) if there.threads() == context.streams.clients() => {
-            let (seat, ending) = host_client(context, there, seat);
+            let (seat, ending) = host_client(context, there, seat, pass);
             Returned {
                 seat,
                 ending: Some(ending),
@@ -157,8 +162,8 @@ fn wait_and_host<'a, L: ExchangeName, R: SessionRuntime, D: ClientStreams, K: Hi
     }
 }
 
-/// Gives a seat a thread, which waits for the latch. Where it can't be had no session begins, and
-/// the seat is there at once.
+/// Gives a seat a thread, with its pass, which waits for the latch. Where it can't be had no
+/// session begins, and the seat is there at once.
 fn start<
     's,
     E,
@@ -170,8 +175,10 @@ fn start<
     scope: &Scope<'s, E>,
     context: &'s HostContext<'s, L, R, D, K>,
     seat: Seat<L>,
+    pass: D::Pass,
 ) -> SeatThread<'s, L, D, K>
-    requires { IsFresh context.now.exchange.now seat }
+    requires seat { IsFresh context.now.exchange.now seat }
+    requires pass { D.admits context.now.streams.now seat.session pass }
     ensures { IsThreadOf K.loses D.known D.received context.now.exchange.now
         (D.known context.now.streams.now) context.now.latch.now.id seat result }
 {
@@ -182,8 +189,9 @@ fn start<
         seat: Snapshot::of(&seat),
     };
     let serve = move || -> Returned<L, D::Receipt>
-        requires { IsFresh context.now.exchange.now seat }
-    { wait_and_host(context, seat) };
+        requires seat { IsFresh context.now.exchange.now seat }
+        requires pass { D.admits context.now.streams.now seat.session pass }
+    { wait_and_host(context, seat, pass) };
     match scope.spawn_with(promise, serve) {
         Ok(thread) => SeatThread::Started(thread),
         Err(refused) => {
@@ -193,7 +201,8 @@ fn start<
     }
 }
 
-/// Gives each of the seats that are left a thread, for which there is room, after the others.
+/// Gives each of the seats that are left a thread and its pass, for which there is room, after the
+/// others.
 fn start_rest<
     's,
     E,
@@ -205,10 +214,13 @@ fn start_rest<
     scope: &Scope<'s, E>,
     context: &'s HostContext<'s, L, R, D, K>,
     mut left: IntoIter<Seat<L>>,
+    mut passes: IntoIter<D::Pass>,
     mut threads: Vec<SeatThread<'s, L, D, K>>,
 ) -> Vec<SeatThread<'s, L, D, K>>
     requires room { length threads.items + length (into_iter_items left) ≤ vec_capacity threads }
     requires seats { All (IsFresh context.now.exchange.now) (into_iter_items left) }
+    requires passes { AreEach (λ seat. D.admits context.now.streams.now seat.session)
+        (into_iter_items left) (into_iter_items passes) }
     ensures { (started : List SeatState) → AreEach (IsThreadOf K.loses D.known D.received
         context.now.exchange.now (D.known context.now.streams.now) context.now.latch.now.id)
         started threads.entry.items
@@ -219,8 +231,11 @@ fn start_rest<
     let Some(seat) = left.next() else {
         return threads;
     };
-    threads.push(start(scope, context, seat)).unwrap();
-    start_rest(scope, context, left, threads)
+    let Some(pass) = passes.next() else {
+        return threads;
+    };
+    threads.push(start(scope, context, seat, pass)).unwrap();
+    start_rest(scope, context, left, passes, threads)
 }
 
 /// What comes back from a seat's thread, once it has ended: its session, where this is what was
@@ -286,8 +301,8 @@ fn join_all<'s, L: ExchangeName, R: SessionRuntime, D: ClientStreams, K: History
     back
 }
 
-/// Serves the clients of these seats side by side, once each has a thread. Their seats come back
-/// where one of these can't be had.
+/// Serves the clients of these seats side by side, each by its pass, once each has a thread. Their
+/// seats come back where one of these can't be had.
 fn host_all<
     's,
     E,
@@ -299,10 +314,13 @@ fn host_all<
     scope: &Scope<'s, E>,
     context: &'s HostContext<'s, L, R, D, K>,
     seats: Vec<Seat<L>>,
+    passes: Vec<D::Pass>,
     back: Endings<L, D::Receipt>,
 ) -> Result<Endings<L, D::Receipt>, (Refusal, Vec<Seat<L>>)>
     requires seats { AreNew context.now.exchange.now.word
         (greatest L.earlier) (D.known context.now.streams.now).clients seats.items }
+    requires passes { AreEach (D.admits context.now.streams.now)
+        (range_with_len 0 (D.known context.now.streams.now).clients) passes.items }
     requires room { IsRoomFor (D.known context.now.streams.now).clients back }
     ensures hosted { IfOk result (λ back. AreAllHosted K.loses context.now.exchange.now
         (greatest L.earlier)
@@ -314,7 +332,13 @@ fn host_all<
     let Ok(threads) = Vec::with_capacity(context.alloc, seats.len()) else {
         return Err((Refusal::NoMemory, seats));
     };
-    let threads = start_rest(scope, context, seats.into_iter(), threads);
+    let threads = start_rest(
+        scope,
+        context,
+        seats.into_iter(),
+        passes.into_iter(),
+        threads,
+    );
     let shown = ThreadsStarted::of(threads.as_slice());
     let decided = context.latch.init(context.rt, move || shown);
     let back = join_all(context, threads, &decided, back);
@@ -324,7 +348,8 @@ fn host_all<
     Err((Refusal::Threads, back.seats))
 }
 
-/// The sessions of the clients of these seats, where there is room for how they end.
+/// The sessions of the clients of these seats by their passes, where there is room for how they
+/// end.
 pub fn host_seats<
     'a,
     L: ExchangeName + Send + Sync,
@@ -336,12 +361,15 @@ pub fn host_seats<
     alloc: Global,
     exchange: &'a PlainExchange<L, K>,
     seats: Vec<Seat<L>>,
+    passes: Vec<D::Pass>,
     streams: &'a D,
     workers: WorkerCount,
     back: Endings<L, D::Receipt>,
 ) -> Result<Endings<L, D::Receipt>, (Refusal, Vec<Seat<L>>)>
     requires seats { AreNew exchange.now.word (greatest L.earlier)
         (D.known streams.now).clients seats.items }
+    requires passes { AreEach (D.admits streams.now)
+        (range_with_len 0 (D.known streams.now).clients) passes.items }
     requires room { IsRoomFor (D.known streams.now).clients back }
     ensures hosted { IfOk result (λ back. AreAllHosted K.loses exchange.now
         (greatest L.earlier)
@@ -367,6 +395,8 @@ pub fn host_seats<
             requires seats { AreNew context.now.exchange.now.word
                 (greatest L.earlier) (D.known context.now.streams.now).clients
                 seats.items }
+            requires passes { AreEach (D.admits context.now.streams.now)
+                (range_with_len 0 (D.known context.now.streams.now).clients) passes.items }
             requires room { IsRoomFor (D.known context.now.streams.now).clients back }
             ensures hosted { IfOk result (λ back. AreAllHosted K.loses
                 context.entry.now.exchange.now (greatest L.earlier)
@@ -376,6 +406,6 @@ pub fn host_seats<
             ensures back { IfErr result (λ refused. AreNew context.entry.now.exchange.now.word
                 (greatest L.earlier) (D.known context.entry.now.streams.now).clients
                 refused.1.items) }
-        { host_all(scope, context, seats, back) },
+        { host_all(scope, context, seats, passes, back) },
     )
 }

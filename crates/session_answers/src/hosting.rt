@@ -1,15 +1,16 @@
 //! The command `host`.
 
 ghost use Rattle.std.specs.Prelude.{◌≡◌, ◌≤◌, ◌+◌, ◌++◌, [], true, IfOk, IfErr, IfSome, length};
-ghost use Rattle.std.specs.Prelude.{map, vec_len, vec_capacity};
-ghost use Rattle.std.specs.List.{list_any};
+ghost use Rattle.std.specs.Prelude.{OnErr, OnOk, map, vec_len, vec_capacity};
+ghost use Rattle.std.specs.List.{list_any, range_with_len};
 ghost use Rattle.batch_book.specs.History.{AreUnstopped};
 ghost use Rattle.batch_book.specs.Naming.{IsNamed};
 ghost use Rattle.session_answers.specs.Histories.{HaveOneHistory};
 ghost use Rattle.session_answers.specs.HostAnswers.{AreHosted, IsUnhosted, seen_end, ending_line};
 ghost use Rattle.session_answers.specs.HostAnswers.{hosted_heading, has_failed};
 ghost use Rattle.session_answers.specs.HostTexts.{ends_text, room_of, session_room};
-ghost use Rattle.session_answers.specs.HostedSessions.{IsRoomFor};
+ghost use Rattle.session_answers.specs.HostedSessions.{AreEach, IsRoomFor};
+ghost use Rattle.session_answers.specs.Passes.{client_names, no_passes};
 
 use crate::client_streams::ClientStreams;
 use crate::closed_sessions::ClosedSessions;
@@ -144,6 +145,26 @@ fn room_for_endings<L: ExchangeName, C: Drop>(
     })
 }
 
+/// A pass for each client, in their order.
+fn passes_for<D: ClientStreams>(
+    alloc: Global,
+    streams: &D,
+    desk: &mut D::Desk,
+) -> Result<Vec<D::Pass>, AllocError>
+    requires { D.passes desk.old ≡ no_passes }
+    ensures passes { IfOk result (λ passes. AreEach (D.admits streams.now)
+        (range_with_len 0 (D.known streams.now).clients) passes.items) }
+    ensures given { OnOk result
+        ((D.passes desk.new).given ≡ client_names (D.known streams.now)) }
+    ensures unused { (D.passes desk.new).admitted ≡ [] }
+{
+    let mut passes = Vec::with_capacity(alloc, streams.clients())?;
+    for client in 0..streams.clients() {
+        passes.push(streams.pass(desk, client)).unwrap();
+    }
+    Ok(passes)
+}
+
 /// What is left of the sessions of the clients on an exchange over this book.
 fn host<L: ExchangeName + Send + Sync, K: History + Send, R: SessionRuntime, D: ClientStreams>(
     rt: &R,
@@ -152,9 +173,11 @@ fn host<L: ExchangeName + Send + Sync, K: History + Send, R: SessionRuntime, D: 
     book: Book<K>,
     workers: WorkerCount,
     streams: &D,
+    desk: &mut D::Desk,
 ) -> Result<Hosted<D::Receipt, K>, (Refusal, Book<K>)>
     requires named { IsNamed L.name L.parts L.table L.opening L.earlier blank book }
     requires unstopped { AreUnstopped book.history }
+    requires no_passes { D.passes desk.old ≡ no_passes }
     requires some { 1 ≤ (D.known streams.now).clients }
     requires few { (D.known streams.now).clients ≤ MAX_SESSIONS }
     ensures hosted { IfOk result (λ hosted. AreHosted K.loses book (D.known streams.now)
@@ -163,6 +186,9 @@ fn host<L: ExchangeName + Send + Sync, K: History + Send, R: SessionRuntime, D: 
     ensures refusal { IfErr result (λ refused. IsUnhosted refused.0) }
     ensures back { IfErr result (λ refused.
         HaveOneHistory K.loses book.opening book.history [] refused.1) }
+    ensures admitted { OnOk result
+        ((D.passes desk.new).admitted ≡ client_names (D.known streams.now)) }
+    ensures unused { OnErr result ((D.passes desk.new).admitted ≡ []) }
 {
     // Asked for only for its contract, which says that the history is legal.
     book.log();
@@ -173,13 +199,17 @@ fn host<L: ExchangeName + Send + Sync, K: History + Send, R: SessionRuntime, D: 
     let Ok(back) = room_for_endings(alloc, streams.clients()) else {
         return Err((Refusal::NoMemory, book));
     };
+    let Ok(passes) = passes_for(alloc, streams, desk) else {
+        return Err((Refusal::NoMemory, book));
+    };
     let opened = open_exchange::<L, K>(alloc, blank, book, workers, streams.clients());
     let (exchange, seats) = match opened {
         Ok(made) => made,
         Err(book) => return Err((Refusal::NoMemory, book)),
     };
-    match host_seats(rt, alloc, &exchange, seats, streams, workers, back) {
+    match host_seats(rt, alloc, &exchange, seats, passes, streams, workers, back) {
         Ok(Endings { seats, endings }) => {
+            streams.admit(desk);
             let text = ends_of(text, streams, endings.as_slice());
             let failed = any_failed(endings.as_slice());
             let closing = finish(exchange, seats, text, failed);
@@ -193,12 +223,13 @@ fn host<L: ExchangeName + Send + Sync, K: History + Send, R: SessionRuntime, D: 
 /// exchange over this book, which may have entries. Each of these is durable, and tells of no run
 /// that stopped.
 ///
-/// Each client is served in a thread of its own, from the files that are opened for it there. It
-/// waits for its own files, and while the exchange answers a call of another. Planning and runs are
-/// given so many workers each. Reply lines are written, and the writer flushed, before more of the
-/// client is read, as [`serve`](client_session::serve) tells. For each client, in order, comes the
-/// line `session I NAME`, and where a fault ended the session, or its files couldn't be opened, a
-/// line `ended ..` that says so, under the status [`REFUSED`](plan_answers::REFUSED).
+/// Each client is served in a thread of its own, from the files that are opened for it there, once,
+/// by the one pass that the desk gives for it. It waits for its own files, and while the exchange
+/// answers a call of another. Planning and runs are given so many workers each. Reply lines are
+/// written, and the writer flushed, before more of the client is read, as
+/// [`serve`](client_session::serve) tells. For each client, in order, comes the line
+/// `session I NAME`, and where a fault ended the session, or its files couldn't be opened, a line
+/// `ended ..` that says so, under the status [`REFUSED`](plan_answers::REFUSED).
 ///
 /// Where a thread can't be had, or there is no memory, no file is opened, and the book comes back
 /// as sessions leave it that asked nothing. Nothing fails for want of memory after the sessions.
@@ -208,10 +239,12 @@ pub fn host_on<K: History + Send, R: SessionRuntime, D: ClientStreams>(
     book: Book<K>,
     workers: WorkerCount,
     streams: &D,
+    desk: &mut D::Desk,
 ) -> Result<Hosted<D::Receipt, K>, (Refusal, Book<K>)>
     requires whole { book.whole ≡ true }
     requires stand { book.durable ≡ book.history }
     requires unstopped { AreUnstopped book.history }
+    requires no_passes { D.passes desk.old ≡ no_passes }
     requires some_clients { 1 ≤ (D.known streams.now).clients }
     requires few_clients { (D.known streams.now).clients ≤ MAX_SESSIONS }
     ensures hosted { IfOk result (λ hosted. AreHosted K.loses book (D.known streams.now)
@@ -220,11 +253,14 @@ pub fn host_on<K: History + Send, R: SessionRuntime, D: ClientStreams>(
     ensures refusal { IfErr result (λ refused. IsUnhosted refused.0) }
     ensures back { IfErr result (λ refused.
         HaveOneHistory K.loses book.opening book.history [] refused.1) }
+    ensures admitted { OnOk result
+        ((D.passes desk.new).admitted ≡ client_names (D.known streams.now)) }
+    ensures unused { OnErr result ((D.passes desk.new).admitted ≡ []) }
 {
     let Ok(blank) = ExchangeBlank::new(alloc) else {
         // Asked for only for its contract, which says that the history is legal.
         book.log();
         return Err((Refusal::NoMemory, book));
     };
-    host::<Brand, K, R, D>(rt, alloc, blank, book, workers, streams)
+    host::<Brand, K, R, D>(rt, alloc, blank, book, workers, streams, desk)
 }

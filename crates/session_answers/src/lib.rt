@@ -15,7 +15,9 @@
 //! `specs/Histories.antt`). No run of it stopped, and no session saw the runs come further than it
 //! tells. What a session was told is durable. Where the book is whole all entries are; where it
 //! isn't, some last ones may be missing, which nobody was told. The files of a client are opened
-//! only for who shows that each client has a thread ([`ThreadsStarted`]).
+//! only by its one pass, of which a desk takes down that it was given
+//! (`specs/Passes.antt`), and only for who shows that each client has a thread
+//! ([`ThreadsStarted`]).
 #![tactic(auto)]
 
 mod client_streams;
@@ -24,6 +26,7 @@ mod ended_session;
 mod frames;
 mod host_threads;
 mod hosting;
+mod pass_trace;
 mod plain_exchange;
 mod serving;
 mod session;
@@ -35,6 +38,7 @@ pub use closed_sessions::ClosedSessions;
 pub use ended_session::Ending;
 pub use frames::push_end;
 pub use hosting::{Hosted, host_on};
+pub use pass_trace::{NameTrace, PassTrace};
 pub use plain_exchange::SessionRuntime;
 pub use serving::{Served, answer_serve};
 pub use talking::talk_on;

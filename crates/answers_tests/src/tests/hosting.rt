@@ -13,7 +13,9 @@ use client_session::ServeFault;
 use exchange_limits::WorkerCount;
 use plan_answers::Answer;
 use refusals::Refusal;
-use session_answers::{ClientStreams, ClosedSessions, Ending, Hosted, ThreadsStarted, host_on};
+use session_answers::{
+    ClientStreams, ClosedSessions, Ending, Hosted, PassTrace, ThreadsStarted, host_on,
+};
 use std::alloc::Global;
 use std::io;
 use std::io::ErrorKind;
@@ -30,7 +32,7 @@ struct KnownStreams<'a> {
 }
 
 impl<'a> ClientStreams for KnownStreams<'a> {
-    ghost use Rattle.std.specs.Prelude.{Some};
+    ghost use Rattle.std.specs.Prelude.{Some, ⊤};
     ghost use Rattle.answers_tests.specs.Known.{known_clients};
 
     type Reader = &'a [u8];
@@ -39,9 +41,17 @@ impl<'a> ClientStreams for KnownStreams<'a> {
 
     type Receipt = Vec<u8>;
 
+    type Desk = PassTrace;
+
+    type Pass = ();
+
     ghost known = { λ d. known_clients d.said.now };
 
     ghost received = { λ told. Some told.items };
+
+    ghost admits = { λ _ _ _. ⊤ };
+
+    ghost passes = { λ desk. desk };
 
     fn clients(&self) -> usize {
         self.said.len()
@@ -51,7 +61,20 @@ impl<'a> ClientStreams for KnownStreams<'a> {
         "client"
     }
 
-    fn open(&self, _there: ThreadsStarted, client: usize) -> io::Result<(&'a [u8], Vec<u8>)> {
+    fn pass(&self, desk: &mut PassTrace, _client: usize) {
+        desk.give("client");
+    }
+
+    fn admit(&self, desk: &mut PassTrace) {
+        desk.admit();
+    }
+
+    fn open(
+        &self,
+        _there: ThreadsStarted,
+        client: usize,
+        _pass: (),
+    ) -> io::Result<(&'a [u8], Vec<u8>)> {
         match self.said.get(client) {
             Some(said) => Ok((*said, Vec::new(self.alloc))),
             None => Err(io::Error::from(ErrorKind::NotFound)),
@@ -80,7 +103,8 @@ fn host_known<K: History + Send, R: Clock + Threads + Wait + Sync>(
         hosted.closing.book) }
 {
     let streams = KnownStreams { alloc, said };
-    host_on(rt, alloc, book, WorkerCount::ONE, &streams)
+    let mut desk = PassTrace::none();
+    host_on(rt, alloc, book, WorkerCount::ONE, &streams, &mut desk)
 }
 
 /// Whether a session ended by itself, and its client was told this.

@@ -3,6 +3,7 @@ use Rattle.std.proofs.KnownBytes.{Appends-nil}
 use Rattle.exchange.specs.Outcomes.{IsUnanswered}
 use Rattle.named_files.specs.Clients.{clients_by, ends_of}
 use Rattle.named_files.specs.Contents.{contents_in}
+use Rattle.named_files.proofs.Admitted.{none_admitted}
 use Rattle.exchange.specs.Responses.{IsJobCut, given_by, named_by}
 use Rattle.exchange.proofs.Comes.{always, err_finished, finish, none_of, refused_so, so_where_ok}
 use Rattle.exchange.proofs.Told.{beside_of, none_served}
@@ -12,8 +13,8 @@ pub run_job_on-end-requires-clause-named : goal.run_job_on-end-requires-clause-n
 run_job_on-end-requires-clause-named g c = λ lifetimes bounds.
     so_where_ok c.open_distinct-outputs.result.1 _ c.in-Ok.ensures.opened c.open_distinct-outputs.ensures.named
 
-pub returns-in-Err : goal.returns-in-Err
-returns-in-Err g c =
+pub returns-in-Err-clause-ended : goal.returns-in-Err-clause-ended
+returns-in-Err-clause-ended g c =
     let given = given_by (g.I.Read.remaining c.args.input.now) (g.P.Ports.ways c.args.peers.now.ports)
     (clients_by (g.S.ClientFiles.says c.args.system.now) (g.S.ClientFiles.had c.args.system.now)) in
     let was = g.P.Ports.ways c.args.peers.now.ports in
@@ -33,8 +34,8 @@ returns-in-Err g c =
       unkept = c.close_outputs.ensures;
     }
 
-pub returns : goal.returns
-returns g c =
+pub returns-clause-ended : goal.returns-clause-ended
+returns-clause-ended g c =
     let given = given_by (g.I.Read.remaining c.args.input.now) (g.P.Ports.ways c.args.peers.now.ports)
     (clients_by (g.S.ClientFiles.says c.args.system.now) (g.S.ClientFiles.had c.args.system.now)) in
     let held = c.run_job_on-end in
@@ -51,3 +52,9 @@ returns g c =
       apart = always c.finished.result _ apart;
       unkept = err_finished held.result.end held.result.lost c.finished.result _ c.finished.ensures.answer held.ensures.unkept;
     }
+
+pub returns-in-Err-clause-admitted : goal.returns-in-Err-clause-admitted
+returns-in-Err-clause-admitted g c = none_admitted _ c.args.peers.now.endings.items _ c.requires.unserved c.requires.no_passes
+
+pub returns-clause-read : goal.returns-clause-read
+returns-clause-read g c = rw c.run_job_on-end.ensures.reads c.read_opened.ensures.read

@@ -2,6 +2,7 @@ use Rattle.std.proofs.Common.{[], ap, refl, rules}
 use Rattle.std.proofs.KnownBytes.{Appends-nil}
 use Rattle.named_files.specs.Clients.{clients_by}
 use Rattle.named_files.specs.Contents.{contents_in}
+use Rattle.named_files.proofs.Admitted.{none_admitted}
 use Rattle.exchange.specs.Responses.{given_by}
 use Rattle.exchange.proofs.Comes.{always_err, err_so, none_of, ok_so, on_err, told_kept, told_ports, told_texts}
 use Rattle.exchange.proofs.Told.{host_beside, none_served, talk_beside, told_lines_more}
@@ -88,17 +89,17 @@ returns-in-Talk-2-clause-beside g c =
 
 pub returns-in-Ok-clause-response : goal.returns-in-Ok-clause-response
 returns-in-Ok-clause-response g c =
-    let is = c.host-kept.ensures in
+    let is = c.host-kept.ensures.lived in
     rw (c.in-Sessions.is, c.in-Host.is)
     (told_kept c.host-kept.result.end _ _ [] _ _ _ _ (Appends-nil _) (ok_so c.host-kept.result.end _ _ (λ found it. (it.0, (refl, (refl, it.1)), it.2))
     (rw c.as_slice-clients.ensures at is.answer)) (err_so c.host-kept.result.end _ _ (λ m it. (it.0, refl, it.1)) is.missed))
 
 pub returns-in-Ok-clause-note : goal.returns-in-Ok-clause-note
-returns-in-Ok-clause-note g c = err_so c.host-kept.result.end _ _ (λ m is. none_of m is.0) c.host-kept.ensures.missed
+returns-in-Ok-clause-note g c = err_so c.host-kept.result.end _ _ (λ m is. none_of m is.0) c.host-kept.ensures.lived.missed
 
 pub returns-in-Ok-clause-unkept : goal.returns-in-Ok-clause-unkept
 returns-in-Ok-clause-unkept g c =
-    rw (c.in-Sessions.is, c.in-Host.is) (on_err c.host-kept.result.end _ _ (λ m is. is.2) (rw c.as_slice-clients.ensures at c.host-kept.ensures.missed))
+    rw (c.in-Sessions.is, c.in-Host.is) (on_err c.host-kept.result.end _ _ (λ m is. is.2) (rw c.as_slice-clients.ensures at c.host-kept.ensures.lived.missed))
 
 pub returns-in-Ok-clause-beside : goal.returns-in-Ok-clause-beside
 returns-in-Ok-clause-beside g c = host_beside _ c.args.request.now _ _ (rw (c.in-Sessions.is, c.in-Host.is) tt)
@@ -107,3 +108,24 @@ returns-in-Ok-clause-beside g c = host_beside _ c.args.request.now _ _ (rw (c.in
 pub returns-in-Err-clause-response : goal.returns-in-Err-clause-response
 returns-in-Err-clause-response g c =
     rw (c.without_sessions-in-Err.ensures.end, c.from.ensures) ([], Appends-nil _, tt, (refl, refl, none_served _ c.requires.unserved))
+
+pub returns-in-Texts-clause-admitted : goal.returns-in-Texts-clause-admitted
+returns-in-Texts-clause-admitted g c = none_admitted _ c.args.peers.now.endings.items _ c.requires.unserved c.requires.no_passes
+
+pub returns-in-Ports-clause-admitted : goal.returns-in-Ports-clause-admitted
+returns-in-Ports-clause-admitted g c = none_admitted _ c.args.peers.now.endings.items _ c.requires.unserved c.requires.no_passes
+
+pub returns-in-Serve-clause-admitted : goal.returns-in-Serve-clause-admitted
+returns-in-Serve-clause-admitted g c = none_admitted _ c.args.peers.now.endings.items _ c.requires.unserved c.requires.no_passes
+
+pub returns-in-Talk-clause-admitted : goal.returns-in-Talk-clause-admitted
+returns-in-Talk-clause-admitted g c = none_admitted _ c.args.peers.now.endings.items _ c.requires.unserved c.requires.no_passes
+
+pub returns-in-Talk-2-clause-admitted : goal.returns-in-Talk-2-clause-admitted
+returns-in-Talk-2-clause-admitted g c = none_admitted _ c.args.peers.now.endings.items _ c.requires.unserved c.requires.no_passes
+
+pub returns-in-Err-clause-admitted : goal.returns-in-Err-clause-admitted
+returns-in-Err-clause-admitted g c = none_admitted _ c.args.peers.now.endings.items _ c.requires.unserved c.requires.no_passes
+
+pub returns-in-Ok-clause-admitted : goal.returns-in-Ok-clause-admitted
+returns-in-Ok-clause-admitted g c = rw (c.in-Sessions.is, c.in-Host.is) (rw c.as_slice-clients.ensures at c.host-kept.ensures.admitted)

@@ -3,7 +3,7 @@ use Rattle.command_words.specs.Jobs.{texts_of}
 use Rattle.named_files.specs.Clients.{clients_by, ends_of}
 use Rattle.exchange.specs.Ends.{IsEndForArguments, IsEndWithoutArguments, IsLeft, IsNoneLeft, streams_of}
 use Rattle.exchange.specs.Responses.{given_by, named_by}
-use Rattle.exchange.proofs.Told.{ended, ended_so, ended_status, none_served}
+use Rattle.exchange.proofs.Told.{ended, ended_so, ended_status, none_opened_so, none_served}
 use Rattle.exchange.proofs.responding.respond.Goals as goal
 
 pub returns-in-Ok-clause-arguments : goal.returns-in-Ok-clause-arguments
@@ -23,8 +23,14 @@ returns-in-Ok-clause-arguments g c =
 pub returns-in-Err-clause-none : goal.returns-in-Err-clause-none
 returns-in-Err-clause-none g c =
     rw c.in-Err.is (
-      (c.none-receipts.ensures, refl, none_served _ c.requires),
+      (c.none-receipts.ensures, refl, none_served _ c.requires.unserved),
       ended_so c.print_without_arguments.result _
           (IsEndWithoutArguments (g.O.Write.contents c.args.out.now) (g.O.Write.contents c.print_without_arguments.new.out)) c.print_without_arguments.ensures
           (ended_status c.print_without_arguments.result _ _ c.status_of-code-in-Err.ensures.done) c.status_of-code-in-Err.ensures.unwritten,
     )
+
+pub returns-in-Ok-clause-opened : goal.returns-in-Ok-clause-opened
+returns-in-Ok-clause-opened g c = rw c.in-Ok.is (rw c.as_slice.ensures.value at c.print_response-end.ensures.opened)
+
+pub returns-in-Err-clause-unopened : goal.returns-in-Err-clause-unopened
+returns-in-Err-clause-unopened g c = rw c.in-Err.is (none_opened_so _ _ c.requires.no_passes c.requires.unread)

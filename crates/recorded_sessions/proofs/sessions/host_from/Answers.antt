@@ -14,6 +14,7 @@ returns-in-Some g c =
             c.host_recorded.ensures.stream t.1,
         rw (ap is_some c.in-Some.is) t.2,
       );
+      admitted = c.host_recorded.ensures.admitted;
     }
 
 pub returns-in-None : goal.returns-in-None
@@ -21,12 +22,13 @@ returns-in-None g c =
     let clients = clients_by (g.S.ClientFiles.says c.args.streams.now.system.now) (g.S.ClientFiles.had c.args.streams.now.system.now)
     c.args.streams.now.clients.now in
     let left = c.host_over-end.result.1 in
-    let settled = host_settled _ c.args.start.book clients _ _ c.host_over-end.result.0 left c.host_over-end.ensures in
+    let settled = host_settled _ c.args.start.book clients _ _ c.host_over-end.result.0 left c.host_over-end.ensures.over in
     record {
       over = (
         left,
         over_silent_from g.S.Stream.Write.contents c.args.start left c.finish_unrecorded.result c.in-None.is settled
             c.finish_unrecorded.ensures.machine c.finish_unrecorded.ensures.whole c.finish_unrecorded.ensures.stream,
-        rw (ap is_some c.in-None.is, c.finish_unrecorded.ensures.end) c.host_over-end.ensures,
+        rw (ap is_some c.in-None.is, c.finish_unrecorded.ensures.end) c.host_over-end.ensures.over,
       );
+      admitted = rw c.finish_unrecorded.ensures.end c.host_over-end.ensures.admitted;
     }

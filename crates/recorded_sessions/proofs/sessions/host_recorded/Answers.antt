@@ -32,7 +32,7 @@ returns-clause-over g c =
     c.args.streams.now.clients.now in
     let left = c.host_over-end.result.1 in
     let over = subst (λ (a : BookView). IsHostOver true a clients c.args.endings.now.items c.host_over-end.new.endings.items c.host_over-end.result.0 left) same
-    c.host_over-end.ensures in
+    c.host_over-end.ensures.over in
     let whole = c.finish_recorded.result.is_whole in
     let text = subst
     (λ (es : List Entry). IfSome c.finish_recorded.result.stream (λ file. IsStreamed g.N.StreamName.held (g.S.Stream.Write.contents file) es left.durable
@@ -51,3 +51,6 @@ returns-clause-over g c =
       },
       rw c.finish_recorded.ensures.end over,
     )
+
+pub returns-clause-admitted : goal.returns-clause-admitted
+returns-clause-admitted g c = rw c.finish_recorded.ensures.end c.host_over-end.ensures.admitted

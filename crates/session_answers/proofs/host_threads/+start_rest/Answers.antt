@@ -6,8 +6,8 @@ use Rattle.session_answers.specs.HostedSessions.{AreEach, IsThreadOf}
 use Rattle.session_answers.proofs.HostedSessions.{each_push, moved}
 use Rattle.session_answers.proofs.host_threads.+start_rest.Goals as goal
 
-pub start-requires-after_bounds : goal.start-requires-after_bounds
-start-requires-after_bounds g t c κs within =
+pub start-requires-clause-seat : goal.start-requires-clause-seat
+start-requires-clause-seat g t c κs within =
     let first : into_iter_items c.args.left ≡ c.in-Some.seat ∷ into_iter_items c.next.new.self = c.in-Some.ensures.items in
     let all = subst (λ (seats : List SeatState). All (IsFresh c.args.context.now.exchange.now) seats) first c.requires.seats in
     all 0 c.in-Some.seat (omega arith)

@@ -1,7 +1,7 @@
 use Rattle.std.proofs.Common.{◌≡◌, ◌∙◌, false, inl, refl, sym, true, arith}
 use Rattle.batch_book.specs.Values.{greatest}
 use Rattle.session_answers.specs.HostedSessions.{begins}
-use Rattle.session_answers.proofs.HostedSessions.{all_fresh, begun_all, begun_none, each_from_none, each_length}
+use Rattle.session_answers.proofs.HostedSessions.{all_fresh, begun_all, begun_none, each_from_none, each_length, each_of_seats}
 use Rattle.session_answers.proofs.host_threads.host_all.Goals as goal
 
 pub start_rest-threads-requires-clause-seats : goal.start_rest-threads-requires-clause-seats
@@ -52,3 +52,9 @@ returns g c =
           (c.join_all-back.ensures c.args.seats.items (each_from_none _ c.args.seats.items _ _ c.start_rest-threads.result.items c.in-Ok.ensures.items
           c.into_iter.ensures.rest c.start_rest-threads.ensures)) c.requires.seats;
     }
+
+pub start_rest-threads-requires-clause-passes : goal.start_rest-threads-requires-clause-passes
+start_rest-threads-requires-clause-passes g c κs within =
+    rw (c.into_iter.ensures.rest, c.into_iter-2.ensures.rest)
+    (each_of_seats (g.D.ClientStreams.admits c.args.context.now.streams.now) c.args.context.now.exchange.now (greatest g.L.ExchangeName.earlier) _
+    c.args.seats.items c.args.passes.items c.requires.seats c.requires.passes)

@@ -11,6 +11,7 @@ spawn_with-requires-send-F g c κs within =
     let r = c.type_bounds.sync-R in
     let d = c.type_bounds.sync-D in
     let k = c.type_bounds.send-K in
+    let p = c.type_bounds.send-D-Pass in
     let e = c.type_bounds.send-K-Pending in
     let q = c.type_bounds.send-K-Recorder in
     let x = λ (a : NamedLft). context_sync a (param 1 g.row.L) _ _ _ _ _ g.L.ExchangeName g.K.EntryLog g.K.Pending.PendingEntries g.K.Pending.EntryLog

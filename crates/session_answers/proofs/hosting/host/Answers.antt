@@ -15,6 +15,10 @@ pub returns-in_default-room_for_endings-clause-back : goal.returns-in_default-ro
 returns-in_default-room_for_endings-clause-back g c = unasked g.K.EntryLog.loses c.args.book c.log.ensures.replay c.requires.named.whole
     (c.requires.named.stand ∙ sym c.requires.named.entries) c.requires.unstopped
 
+pub returns-in_default-passes_for-clause-back : goal.returns-in_default-passes_for-clause-back
+returns-in_default-passes_for-clause-back g c = unasked g.K.EntryLog.loses c.args.book c.log.ensures.replay c.requires.named.whole
+    (c.requires.named.stand ∙ sym c.requires.named.entries) c.requires.unstopped
+
 pub returns-in-Err-clause-back : goal.returns-in-Err-clause-back
 returns-in-Err-clause-back g c =
     rw c.in-Err.ensures.back (unasked g.K.EntryLog.loses c.args.book c.log.ensures.replay c.requires.named.whole
